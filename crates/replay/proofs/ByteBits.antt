@@ -1,0 +1,2 @@
+-- The bits of one byte of a row. Assumes nothing.
+use Prim.Native.Nat.{ℕ}

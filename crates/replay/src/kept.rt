@@ -1,0 +1,1 @@
+// The kept count of one row.

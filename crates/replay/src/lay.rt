@@ -1,0 +1,37 @@
+// One write laid over an image in place.
+use crate::rows::row_bit;
+use region::CHUNK_SIZE;
+ghost use mathlib.Core.Path.{_≡_};
+ghost use Prim.Native.Nat.{_+_, _≤_};
+ghost use lib.ListN.{length};
+ghost use Rattle.region.specs.Limits.{const-persistence-chunk-size};
+ghost use Rattle.region.specs.Pmemspec.{update-bytes};
+ghost use Rattle.replay.specs.AsyncSpec.{apply-write-selective, size-to-chunks};
+ghost use Rattle.replay.specs.Rows.{row-at, row-bytes};
+
+// The whole write: `apply_write`.
+pub fn lay(work: &mut [u8], addr: usize, bytes: &[u8])
+    requires { ⌜ addr + length (now bytes) ≤ length (now work) ⌝ }
+    ensures { λ _. ⌜ now (work .exit) ≡ update-bytes (now (work .entry)) addr (now (bytes .entry)) ⌝ }
+{
+    let mut j = 0;
+    while j < bytes.len() {
+        work[addr + j] = bytes[j];
+        j += 1;
+    }
+}
+
+// Only the bytes in chunks that the row at `at` keeps: `apply_write_selective`.
+pub fn lay_selected(work: &mut [u8], addr: usize, bytes: &[u8], rows: &[u8], at: usize)
+    requires { ⌜ addr + length (now bytes) ≤ length (now work) ⌝ }
+    requires { ⌜ at + row-bytes (size-to-chunks const-persistence-chunk-size (length (now work))) ≤ length (now rows) ⌝ }
+    ensures { λ _. ⌜ now (work .exit) ≡ apply-write-selective const-persistence-chunk-size (now (work .entry)) (record { addr = addr; bytes = now (bytes .entry) }) (row-at (size-to-chunks const-persistence-chunk-size (length (now (work .entry)))) (now (rows .entry)) at) ⌝ }
+{
+    let mut j = 0;
+    while j < bytes.len() {
+        if row_bit(rows, at, (addr + j) / CHUNK_SIZE) {
+            work[addr + j] = bytes[j];
+        }
+        j += 1;
+    }
+}
