@@ -1,3 +1,3 @@
 -- The laws of `region`'s definitions.
+pub mod Booleans
 pub mod Tab
-pub mod Chunks

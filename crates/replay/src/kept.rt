@@ -1,1 +1,0 @@
-// The kept count of one row.
