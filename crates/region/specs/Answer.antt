@@ -1,5 +1,8 @@
--- Document 01's number for each case of an answer ("When the desk says no"). Every promise goes by these.
+-- Document 01's number for each case of an answer ("When the desk says no"), and what a call reports beside it. Every promise goes by these.
 use Prim.Native.Nat.{ℕ}
+use mathlib.Core.Bool.{Bool, cond}
+use mathlib.Core.List.{List}
+use lib.Dec.{eqb}
 use Rattle.region.specs.declared.Refusal.{Refusal}
 use Rattle.region.specs.declared.Refusal.the-variants.{BadState, OutOfRange, TooManyWrites, TooManyBytes, BadSheet, BrokenImage, TooManyPoints, BadRows, BadTape, NotPredicted, TooManyRounds}
 use Rattle.region.specs.declared.Answer.{Answer}
@@ -21,3 +24,16 @@ refusal-number TooManyRounds = 12
 abbrev pub answer-number : Answer → ℕ
 answer-number Done = 0
 answer-number (Refused why) = refusal-number why
+
+-- A number, and what the call reports with it: n, m or kept where document 01 reports one, and nothing otherwise.
+pub record Report : Type 0 where
+  pub number : ℕ
+  pub values : List ℕ
+
+-- "The first that applies .. is given": a refusal's number unless its test is good, and then what comes after it
+abbrev pub unless {ℓ} : {A : Type ℓ} → Bool → A → A → A
+unless good refusal rest = cond good rest refusal
+
+-- what a lent buffer or a state holds afterwards: changed where the answer's number is 0, and otherwise what it was
+abbrev pub if-done {ℓ} : {A : Type ℓ} → ℕ → A → A → A
+if-done number after before = cond (eqb number 0) after before

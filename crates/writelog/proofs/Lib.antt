@@ -1,0 +1,4 @@
+-- The laws of `writelog`'s definitions. `Records` takes the records of a log one at a time; `Soundness` takes the test of refusal 1 apart and
+-- puts it together.
+pub mod Records
+pub mod Soundness
