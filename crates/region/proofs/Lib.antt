@@ -1,3 +1,2 @@
 -- The laws of `region`'s definitions.
 pub mod Tab
-pub mod Chunks

@@ -41,3 +41,5 @@ pub const WRITES_LIMIT: usize = 32;
 pub const LOG_LIMIT: usize = 1024;
 
 pub const CHUNK_SIZE: usize = 8;
+
+pub mod chunks;

@@ -6,7 +6,7 @@ use mathlib.Core.Bool.{Bool, true, false, cond, _&&_}
 use mathlib.Core.List.{List, [], _∷_, _++_}
 use lib.ListN.{length, getD, drop}
 use Rattle.region.specs.Tab.{tab, inside}
-use Rattle.region.specs.Pmemspec.{update-bytes}
+use Rattle.region.specs.Pmemspec.{update-bytes, size-to-chunks}
 
 -- `Write`
 pub record Write : Type 0 where
@@ -16,10 +16,6 @@ pub record Write : Type 0 where
 -- `addr_to_chunk`
 abbrev pub addr-to-chunk : ℕ → ℕ → ℕ
 addr-to-chunk C addr = addr / C
-
--- `size_to_chunks`: document 01's K
-abbrev pub size-to-chunks : ℕ → ℕ → ℕ
-size-to-chunks C sz = (sz + C - 1) / C
 
 -- `apply_write`
 abbrev pub apply-write : List ℕ → Write → List ℕ
