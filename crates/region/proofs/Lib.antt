@@ -1,2 +1,3 @@
 -- The laws of `region`'s definitions.
 pub mod Tab
+pub mod AnswerLaws
