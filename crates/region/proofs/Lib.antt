@@ -1,3 +1,4 @@
 -- The laws of `region`'s definitions.
 pub mod Tab
 pub mod AnswerLaws
+pub mod ViewerLaws

@@ -43,3 +43,4 @@ pub const LOG_LIMIT: usize = 1024;
 pub const CHUNK_SIZE: usize = 8;
 
 pub mod chunks;
+pub mod viewer;
