@@ -55,7 +55,8 @@ pub fn viewer<'a>(
     let Answer::Done = view_answer(image.len(), addr, len) else {
         return &image[..0];
     };
-    &image[addr..addr + len]
+    let end = addr + len;
+    &image[addr..end]
 }
 
 // The number of the same question. It tells a refusal from a good ask for no bytes.

@@ -6,7 +6,7 @@ use Rattle.region.proofs.viewer.view_answer.Statement.{statement}
 use Rattle.region.proofs.viewer.view_answer.Tie as tie
 
 returns : tie.Need-returns
-returns c = let at = c .before .args in sym (answer-over (at .l) (at .addr) (at .len) (c .if1 .taken))
+returns c = let at = c .before .args in sym (answer-over (at .l) (at .addr) (at .len) (omega arith))
 
 returns-2 : tie.Need-returns-2
 returns-2 c = let at = c .before .before .args in sym (answer-past (at .l) (at .addr) (at .len) (omega arith) (omega arith))

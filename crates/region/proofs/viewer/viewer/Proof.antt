@@ -59,8 +59,8 @@ returns c =
     let choose = c .before .before .before .before .choose in
     rw (← choose .ensures) (not-viewed (choose .result) (args .addr) (args .len) _ (refused (c .before)) refl refl)
 
-add-result : tie.Need-add-result
-add-result c = omega (arith, inside c)
+add-end : tie.Need-add-end
+add-end c = omega (arith, inside c)
 
 sub-result : tie.Need-sub-result
 sub-result c = search needs
@@ -69,7 +69,7 @@ part-result-start : tie.Need-part-result-start
 part-result-start c = search needs
 
 part-result-end : tie.Need-part-result-end
-part-result-end c = inside c .1
+part-result-end c = omega (arith, inside c)
 
 returns-2 : tie.Need-returns-2
 returns-2 c =
@@ -87,7 +87,7 @@ viewer-spec =
     enum-told-2
     slice-aggregate-result
     returns
-    add-result
+    add-end
     sub-result
     part-result-start
     part-result-end
