@@ -1,8 +1,7 @@
 -- Document 01's number for each case of an answer ("When the desk says no"), and what a call reports beside it. Every promise goes by these.
-use Prim.Native.Nat.{ℕ}
+use Prim.Native.Nat.{ℕ, zero, suc}
 use mathlib.Core.Bool.{Bool, cond}
 use mathlib.Core.List.{List}
-use lib.Dec.{eqb}
 use Rattle.region.specs.declared.Refusal.{Refusal}
 use Rattle.region.specs.declared.Refusal.the-variants.{BadState, OutOfRange, TooManyWrites, TooManyBytes, BadSheet, BrokenImage, TooManyPoints, BadRows, BadTape, NotPredicted, TooManyRounds}
 use Rattle.region.specs.declared.Answer.{Answer}
@@ -34,6 +33,7 @@ pub record Report : Type 0 where
 abbrev pub unless {ℓ} : {A : Type ℓ} → Bool → A → A → A
 unless good refusal rest = cond good rest refusal
 
--- what a lent buffer or a state holds afterwards: changed where the answer's number is 0, and otherwise what it was
+-- what goes by the number: the first where the call is done, the second on any refusal. A lent buffer or a state is changed, or what it was.
 abbrev pub if-done {ℓ} : {A : Type ℓ} → ℕ → A → A → A
-if-done number after before = cond (eqb number 0) after before
+if-done zero after before = after
+if-done (suc why) after before = before

@@ -16,6 +16,11 @@ update-bytes s addr bytes = tab (λ i. cond (inside addr (length bytes) i) (getD
 abbrev pub addr-in-chunk : ℕ → ℕ → ℕ → Type 0
 addr-in-chunk C chunk addr = addr / C ≡ chunk
 
+-- `size_to_chunks` of pmem_async_spec_t.rs: the number of chunks that sz bytes reach into, document 01's K. The code of this crate computes it, so
+-- it stands here.
+abbrev pub size-to-chunks : ℕ → ℕ → ℕ
+size-to-chunks C sz = (sz + C - 1) / C
+
 -- `chunk_corresponds`: s₁ and s₂ have the same bytes in this chunk
 abbrev pub chunk-corresponds : ℕ → List ℕ → List ℕ → ℕ → Type 0
 chunk-corresponds C s₁ s₂ chunk = (addr : ℕ) → addr < length s₁ → addr-in-chunk C chunk addr → getD s₁ addr 0 ≡ getD s₂ addr 0

@@ -41,3 +41,6 @@ pub const WRITES_LIMIT: usize = 32;
 pub const LOG_LIMIT: usize = 1024;
 
 pub const CHUNK_SIZE: usize = 8;
+
+pub mod chunks;
+pub mod viewer;

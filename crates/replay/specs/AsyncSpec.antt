@@ -1,5 +1,6 @@
 -- Renders pmem_async_spec_t.rs, under the same names with hyphens: the image at the last flush with the outstanding writes over it. The chunk size
--- is the argument C. `data` is a word of antt, so a write's bytes are its field `bytes`.
+-- is the argument C. `data` is a word of antt, so a write's bytes are its field `bytes`. `size_to_chunks` stands in `region`, where code needs it
+-- first, and is passed on from here.
 use Prim.Native.Nat.{ℕ, zero, suc, _+_, _-_, _/_, _≤_, _<_}
 use mathlib.Core.Path.{_≡_}
 use mathlib.Core.Bool.{Bool, true, false, cond, _&&_}
@@ -7,6 +8,7 @@ use mathlib.Core.List.{List, [], _∷_, _++_}
 use lib.ListN.{length, getD, drop}
 use Rattle.region.specs.Tab.{tab, inside}
 use Rattle.region.specs.Pmemspec.{update-bytes}
+pub use Rattle.region.specs.Pmemspec.{size-to-chunks}
 
 -- `Write`
 pub record Write : Type 0 where
@@ -16,10 +18,6 @@ pub record Write : Type 0 where
 -- `addr_to_chunk`
 abbrev pub addr-to-chunk : ℕ → ℕ → ℕ
 addr-to-chunk C addr = addr / C
-
--- `size_to_chunks`: document 01's K
-abbrev pub size-to-chunks : ℕ → ℕ → ℕ
-size-to-chunks C sz = (sz + C - 1) / C
 
 -- `apply_write`
 abbrev pub apply-write : List ℕ → Write → List ℕ

@@ -3,4 +3,5 @@
 // specs/, which renders pmem_async_spec_t.rs or document 01. The log itself is in `writelog`.
 // Nothing is assumed.
 pub mod lay;
+pub mod points;
 pub mod rows;
