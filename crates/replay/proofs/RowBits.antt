@@ -5,11 +5,11 @@ use native.Mathlib.Nat.{suc-mul, add-comm, not-suc-le-zero}
 use native.Mathlib.Numerals.{sub-one}
 use mathlib.Core.Path.{_≡_, refl, ap, _∙_}
 use mathlib.Core.Bool.{false, _&&_}
-use mathlib.Core.List.{List}
+use mathlib.Core.List.{List, _∷_}
 use lib.ListN.{getD}
 use Rattle.region.specs.Tab.{tab}
 use Rattle.region.proofs.Tab.{getD-tab}
-use Rattle.replay.specs.Rows.{row-at, row-bit, row-bytes, row-filled, rows-filled}
+use Rattle.replay.specs.Rows.{row-at, row-bit, row-bytes, rows-at, row-filled, rows-filled}
 
 pub row-at-bit : (K : ℕ) (table : List ℕ) (at c : ℕ) → c < K → getD (row-at K table at) c false ≡ row-bit table at c
 unfolding row-at
@@ -25,3 +25,8 @@ pub rows-filled-more : (K n : ℕ) (table : List ℕ) (at : ℕ) → 0 < n
 unfolding rows-filled
 rows-filled-more K zero table at h = absurd (not-suc-le-zero h)
 rows-filled-more K (suc n) table at h = rw (sub-one (suc n))
+
+pub rows-at-more : (K n : ℕ) (table : List ℕ) (at : ℕ) → 0 < n → rows-at K n table at ≡ row-at K table at ∷ rows-at K (n - 1) table (at + row-bytes K)
+unfolding rows-at
+rows-at-more K zero table at h = absurd (not-suc-le-zero h)
+rows-at-more K (suc n) table at h = rw (sub-one (suc n))

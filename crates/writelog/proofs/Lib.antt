@@ -2,3 +2,4 @@
 -- puts it together.
 pub mod Records
 pub mod Soundness
+pub mod Walk

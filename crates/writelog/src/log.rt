@@ -1,8 +1,8 @@
 // Walks over the log, oldest write first, one write falling away at each step.
 use crate::state::Record;
 use crate::state::State;
-use region::chunks::size_to_chunks;
 use region::CHUNK_SIZE;
+use region::chunks::size_to_chunks;
 use replay::lay::lay;
 use replay::lay::lay_selected;
 use replay::points::touched;

@@ -1,0 +1,130 @@
+use Rattle.writelog.proofs.Walk.{piece-is, piece-le}
+use Rattle.writelog.proofs.Walk.{oldest, Step, step, no-more}
+use Rattle.writelog.specs.Log.{last-writes, Remaining}
+use Rattle.replay.specs.AsyncSpec.{Write, committed, flush-writes}
+use Rattle.region.specs.Pmemspec.{update-bytes}
+use lib.ListN.{length, take, drop}
+use borrow.Author.Needs.{needs}
+use mathlib.Core.List.{List}
+use mathlib.Core.Path.{_≡_, sym, ap, subst⁻¹, _∙_}
+use native.Mathlib.Omega.{arith}
+use native.Mathlib.Nat.{add-sub-cancel-left, pos-of-ne-zero}
+use Prim.Native.Nat.{_+_, _-_, _≤_}
+use Prim.Native.Nat.{ℕ, _<_}
+use borrow.Fn.Kinds.{In}
+use borrow.Fn.PlainCycle.{Measures, is, falls, and}
+use Rattle.writelog.proofs.log.replay_whole.Reads as replay-whole
+use Rattle.writelog.proofs.log.replay_whole.Kinds as replay-whole-kinds
+use Rattle.writelog.proofs.log.+replay_whole.Lts-replay_whole as replay-whole-lts
+use Rattle.replay.proofs.lay.lay.Reads as lay-reads
+use Rattle.writelog.proofs.log.+replay_whole.{statement}
+use Rattle.writelog.proofs.log.+replay_whole.Tie.{close}
+
+abbrev μ-replay-whole : Measures 2 replay-whole-kinds.ps ℕ
+μ-replay-whole κs a = a .1 .1 .1 .1 .0
+
+abbrev replay-whole-at : ℕ → In 2 replay-whole-kinds.ps
+replay-whole-at t =
+    and 2 replay-whole-kinds.ps (is 2 replay-whole-kinds.ps μ-replay-whole t) replay-whole.Pre
+
+abbrev replay-whole-below : ℕ → In 2 replay-whole-kinds.ps
+replay-whole-below t =
+    and
+    2
+    replay-whole-kinds.ps
+    (falls 2 replay-whole-kinds.ps _<_ μ-replay-whole t)
+    replay-whole.Pre
+
+-- what is known of the callees at the measure t
+abbrev claims : ℕ → replay-whole-lts.Claims
+claims t = (lay-reads.Asked, lay-reads.Learnt, replay-whole-below t, replay-whole.Post)
+
+-- the walk's step, where a write is left
+stepped : (t : ℕ) (c : replay-whole-lts.Else1 (claims t) (replay-whole-at t) replay-whole.Post) → Step (length (c .before .before .before .args .work .now)) (c .before .before .before .args .t1) (length (c .before .before .before .args .log .now)) (c .before .before .before .args .at) (c .before .before .before .args .left)
+stepped t c = let a = c .before .before .before .args in
+    step _ (a .t1) _ (a .at) (a .left) (c .before .before .before .pre .1) (pos-of-ne-zero (c .if1 .left))
+
+-- src/log.rt:25:9
+replay-whole-returns : (t : ℕ) → replay-whole-lts.Need-returns (claims t) (replay-whole-at t) replay-whole.Post
+unfolding flush-writes
+replay-whole-returns t c = let a = c .before .before .before .args in
+    ap (λ (ws : List Write). committed (flush-writes (a .work .now) ws)) (sym (no-more _ (a .t1) _ (a .at) (a .left) (c .before .before .before .pre .1) (c .if1 .taken) (a .log .now)))
+
+-- src/log.rt:27:13
+replay-whole-sub-i : (t : ℕ) → replay-whole-lts.Need-sub-i (claims t) (replay-whole-at t) replay-whole.Post
+replay-whole-sub-i t c = omega arith
+
+-- src/log.rt:28:13
+replay-whole-mul-r : (t : ℕ) → replay-whole-lts.Need-mul-r (claims t) (replay-whole-at t) replay-whole.Post
+replay-whole-mul-r t c = omega (arith, stepped t c)
+
+-- src/log.rt:28:13
+replay-whole-element-copy-out-r : (t : ℕ) → replay-whole-lts.Need-element-copy-out-r (claims t) (replay-whole-at t) replay-whole.Post
+replay-whole-element-copy-out-r t c = stepped t c .index
+
+-- src/log.rt:29:15
+replay-whole-add-end : (t : ℕ) → replay-whole-lts.Need-add-end (claims t) (replay-whole-at t) replay-whole.Post
+replay-whole-add-end t c = omega (arith, stepped t (c .before .before) .has)
+
+-- src/log.rt:30:23
+replay-whole-sub-lay : (t : ℕ) → replay-whole-lts.Need-sub-lay (claims t) (replay-whole-at t) replay-whole.Post
+replay-whole-sub-lay t c = omega arith
+
+-- src/log.rt:30:23
+replay-whole-part-lay-start : (t : ℕ) → replay-whole-lts.Need-part-lay-start (claims t) (replay-whole-at t) replay-whole.Post
+replay-whole-part-lay-start t c = omega (arith, stepped t (c .before .before .before) .has)
+
+-- src/log.rt:30:23
+replay-whole-part-lay-end : (t : ℕ) → replay-whole-lts.Need-part-lay-end (claims t) (replay-whole-at t) replay-whole.Post
+replay-whole-part-lay-end t c = omega (arith, stepped t (c .before .before .before) .has)
+
+-- src/log.rt:30:5
+replay-whole-lay-requires : (t : ℕ) → replay-whole-lts.Need-lay-requires (claims t) (replay-whole-at t) replay-whole.Post
+replay-whole-lay-requires t c κs = let else1 = c .before .before .before .before in
+    let a = else1 .before .before .before .args in
+    omega (arith, stepped t else1 .lies, piece-le (a .at) (oldest (a .t1) (a .left) .len) (a .log .now))
+
+-- src/log.rt:31:41
+replay-whole-sub-replay-whole : (t : ℕ) → replay-whole-lts.Need-sub-replay-whole (claims t) (replay-whole-at t) replay-whole.Post
+replay-whole-sub-replay-whole t c = pos-of-ne-zero (c .before .before .before .before .before .before .before .before .if1 .left)
+
+-- src/log.rt:31:5
+replay-whole-replay-whole-requires : (t : ℕ) → replay-whole-lts.Need-replay-whole-requires (claims t) (replay-whole-at t) replay-whole.Post
+replay-whole-replay-whole-requires t c κs = let else1 = c .before .before .before .before .before .before .before .before in
+    let start = else1 .before .before .before in (
+      omega (arith, start .pre .0, pos-of-ne-zero (else1 .if1 .left)),
+      subst⁻¹ (λ (n : ℕ). Remaining n (start .args .t1) (length (start .args .log .now)) (start .args .at + oldest (start .args .t1) (start .args .left) .len) (start .args .left - 1)) (c .before .before .before .lay .kept .0) (stepped t else1 .after),
+    )
+
+-- src/log.rt:20:1
+replay-whole-same-length : (t : ℕ) → replay-whole-lts.Need-same-length (claims t) (replay-whole-at t) replay-whole.Post
+replay-whole-same-length t c = c .before .before .replay-whole .kept .1 .1 .0 ∙ c .before .before .before .before .before .before .lay .kept .0
+
+-- src/log.rt:20:1
+replay-whole-returns-2 : (t : ℕ) → replay-whole-lts.Need-returns-2 (claims t) (replay-whole-at t) replay-whole.Post
+unfolding flush-writes
+replay-whole-returns-2 t c = let else1 = c .before .before .before .before .before .before .before .before .before .before .before in
+    let a = else1 .before .before .before .args in
+    let r = oldest (a .t1) (a .left) in
+    c .before .before .replay-whole .ensures
+    ∙ ap (λ (w : List ℕ). committed (flush-writes w (last-writes (a .t1) (a .left - 1) (a .log .now) (a .at + r .len))))
+    (c .before .before .before .before .before .before .lay .ensures ∙ ap (update-bytes (a .work .now) (r .addr)) (piece-is (a .at) (r .len) (a .log .now)))
+    ∙ sym (ap (λ (ws : List Write). committed (flush-writes (a .work .now) ws)) (stepped t else1 .writes (a .log .now)))
+
+pub +replay-whole-spec : {M : Type 1} → statement M
++replay-whole-spec = close μ-replay-whole λ t. replay-whole-lts.spec (claims t)
+    (replay-whole-at t)
+    replay-whole.Post
+    (replay-whole-returns t)
+    (replay-whole-sub-i t)
+    (replay-whole-mul-r t)
+    (replay-whole-element-copy-out-r t)
+    (replay-whole-add-end t)
+    (replay-whole-sub-lay t)
+    (replay-whole-part-lay-start t)
+    (replay-whole-part-lay-end t)
+    (replay-whole-lay-requires t)
+    (replay-whole-sub-replay-whole t)
+    (replay-whole-replay-whole-requires t)
+    (replay-whole-same-length t)
+    (replay-whole-returns-2 t)
