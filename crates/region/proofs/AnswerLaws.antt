@@ -3,13 +3,13 @@ use Prim.Native.Nat.{ℕ, zero, suc, _<_}
 use mathlib.Core.Path.{_≡_, refl, sym, ap, _∙_}
 use mathlib.Core.List.{List, [], _∷_}
 use lib.ListN.{getD}
-use native.Mathlib.Nat.{pos-of-ne-zero}
+use native.Mathlib.Nat.{pos-of-ne-zero, not-suc-le-zero}
 use native.Mathlib.Omega.{arith}
 use Rattle.region.specs.declared.Refusal.{Refusal}
 use Rattle.region.specs.declared.Refusal.the-variants.{BadState, OutOfRange, TooManyWrites, TooManyBytes, BadSheet, BrokenImage, TooManyPoints, BadRows, BadTape, NotPredicted, TooManyRounds}
 use Rattle.region.specs.declared.Answer.{Answer}
 use Rattle.region.specs.declared.Answer.the-variants.{Done, Refused}
-use Rattle.region.specs.Answer.{refusal-number, answer-number}
+use Rattle.region.specs.Answer.{refusal-number, answer-number, if-done}
 
 -- the answers in the order of their numbers. 8 is none of them: it reports a number, and is the gate's own.
 answers : List Answer
@@ -57,3 +57,15 @@ refusal-not-done why = pos-of-ne-zero (λ none. never (answers-by-number (Refuse
   where
     never : Refused why ≡ Done → ⊥
     never e = let z : _≡_ {A = ℕ} 0 1 = cc in omega arith
+
+-- what goes by a number that is not 0
+pub not-done {ℓ} : {A : Type ℓ} (n : ℕ) (after before : A) → 0 < n → if-done n after before ≡ before
+not-done zero after before h = absurd (not-suc-le-zero h)
+not-done (suc why) after before h = refl
+
+-- what a done call changed, and what a refused one left
+pub done-changed {ℓ} : {A : Type ℓ} {n : ℕ} (after before : A) → n ≡ 0 → after ≡ if-done n after before
+done-changed after before e = sym (ap (λ (k : ℕ). if-done k after before) e)
+
+pub refused-left {ℓ} : {A : Type ℓ} {n : ℕ} (why : Refusal) (after before : A) → n ≡ refusal-number why → before ≡ if-done n after before
+refused-left why after before e = sym (ap (λ (k : ℕ). if-done k after before) e ∙ not-done (refusal-number why) after before (refusal-not-done why))

@@ -14,6 +14,7 @@ use borrow.Author.Tests.{lt-ltb, le-ltb, ltb-true, ltb-false}
 use Rattle.region.specs.Limits.{image-limit}
 use Rattle.region.specs.Pmemspec.{extract-bytes}
 use Rattle.region.specs.Answer.{if-done}
+use Rattle.region.proofs.AnswerLaws.{not-done}
 use Rattle.region.specs.Viewer.{viewer-answer, viewer-part, Viewed}
 
 module _ (L addr len : ℕ) where
@@ -50,11 +51,6 @@ module _ (L addr len : ℕ) where
   -- so the number tells the reason
   pub done-within : viewer-answer L addr len ≡ 0 → (L ≤ image-limit) × (addr + len ≤ L)
   done-within e = ⊎-elim (λ o. (omega arith, omega arith)) (⊎-elim (λ p. (omega arith, omega arith)) (λ w. (w .0, w .1))) viewer-cases
-
--- what goes by a number that is not 0
-pub not-done {ℓ} : {A : Type ℓ} (n : ℕ) (this that : A) → 0 < n → if-done n this that ≡ that
-not-done zero this that h = absurd (not-suc-le-zero h)
-not-done (suc why) this that h = refl
 
 module _ (image : List ℕ) (addr len : ℕ) where
   -- "On any refusal the part is empty"

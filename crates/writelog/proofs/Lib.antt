@@ -3,3 +3,5 @@
 pub mod Records
 pub mod Soundness
 pub mod Walk
+pub mod WriteLaws
+pub mod FlushLaws

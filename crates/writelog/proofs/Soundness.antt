@@ -1,7 +1,8 @@
 -- Refusal 1's test as five facts, which arithmetic reads. Assumes nothing.
 use Prim.Native.Nat.{ℕ, _≤_}
-use mathlib.Core.Path.{_≡_, refl, sym, ap, _∙_}
-use mathlib.Core.Bool.{Bool, true, false, cond, _&&_, false≢true}
+use native.Mathlib.Omega.{arith}
+use mathlib.Core.Path.{_≡_, refl, sym, _∙_}
+use mathlib.Core.Bool.{Bool, true, false, cond}
 use borrow.Author.Tests.{le-leb, leb-true, eq-eqb, eqb-true}
 use Rattle.region.specs.Limits.{image-limit, writes-limit, log-limit}
 use Rattle.region.proofs.Booleans.{cond-when, cond-unless, both, both-true}
@@ -44,3 +45,23 @@ module _ (L : ℕ) (st : State) (log-length : ℕ) where
       go : (b : Bool) → sound L st log-length ≡ b → sound L st log-length ≡ false
       go true e = absurd (n (sound-facts e))
       go false e = e
+
+  -- what a caller of `checked` learns from its answer
+  pub record Told (used : ℕ) : Type 0 where
+    pub good : sound L st log-length ≡ true
+    pub facts : Sound L st log-length
+    pub counted : used ≡ together (log-records st)
+
+  pub told-bytes : {r : Outstanding} {used : ℕ} → r ≡ cond (sound L st log-length) (Bytes (together (log-records st))) Unsound → r ≡ Bytes used → Told used
+  told-bytes {r} {used} e b = go (sound L st log-length) refl
+    where
+      go : (t : Bool) → sound L st log-length ≡ t → Told used
+      go true s = record { good = s; facts = sound-facts s; counted = let p : Bytes used ≡ Bytes (together (log-records st)) = sym b ∙ e ∙ cond-when (sound L st log-length) (Bytes (together (log-records st))) Unsound s in cc }
+      go false s = let p : Bytes used ≡ Unsound = sym b ∙ e ∙ cond-unless (sound L st log-length) (Bytes (together (log-records st))) Unsound s in let z : _≡_ {A = ℕ} 0 1 = cc in absurd (omega arith)
+
+  pub told-unsound : {r : Outstanding} → r ≡ cond (sound L st log-length) (Bytes (together (log-records st))) Unsound → r ≡ Unsound → sound L st log-length ≡ false
+  told-unsound {r} e b = go (sound L st log-length) refl
+    where
+      go : (t : Bool) → sound L st log-length ≡ t → sound L st log-length ≡ false
+      go true s = let p : Unsound ≡ Bytes (together (log-records st)) = sym b ∙ e ∙ cond-when (sound L st log-length) (Bytes (together (log-records st))) Unsound s in let z : _≡_ {A = ℕ} 0 1 = cc in absurd (omega arith)
+      go false s = s

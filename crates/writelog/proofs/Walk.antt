@@ -1,6 +1,6 @@
 -- One step of a walk over the log: what is known of the oldest remaining write, and of those after it. Assumes nothing.
 use Prim.Native.Nat.{ℕ, zero, suc, _+_, _-_, _*_, _≤_, _<_}
-use native.Mathlib.Nat.{add-sub-cancel-left, min-le-left}
+use native.Mathlib.Nat.{add-sub-cancel-left, min-le-left, sub-self, le-refl}
 use native.Mathlib.Omega.{arith}
 use mathlib.Core.Path.{_≡_, sym, ap, ap₂, _∙_}
 use mathlib.Core.Bool.{Bool, true}
@@ -8,12 +8,14 @@ use mathlib.Core.List.{List, [], _∷_}
 use lib.ListN.{length, take, drop, length-take}
 use lib.Seq.{drop-drop}
 use borrow.Author.Tests.{leb-true}
+use Rattle.region.specs.Limits.{writes-limit}
 use Rattle.region.proofs.Booleans.{both}
 use Rattle.replay.specs.AsyncSpec.{Write}
 use Rattle.writelog.specs.State.{log-records, together, records-inside, writes-of}
 use Rattle.writelog.specs.Log.{last-records, last-writes, Remaining}
 use Rattle.writelog.specs.declared.state.Record.{Record}
 use Rattle.writelog.specs.declared.state.State.{State}
+use Rattle.writelog.proofs.Soundness.{Sound}
 use Rattle.writelog.proofs.Records.{next, rest, together-more, inside-more, writes-more, records-none}
 
 -- the oldest of the last `left` records
@@ -57,3 +59,19 @@ module _ (L : ℕ) (st : State) (n at left : ℕ) (r : Remaining L st n at left)
         after = record { sized = r .sized; few = r .few; some = omega (arith, r .some); inside = ap (λ (k : ℕ). records-inside L (drop k (log-records st))) (sym follow) ∙ in-both .1; room = omega (arith, sum, r .room) };
         writes = λ log. writes-more st (st .count - left) h l (drop at log) ∙ ap₂ (λ (k : ℕ) (bytes : List ℕ). record { addr = oldest st left .addr; bytes = take (oldest st left .len) (drop at log) } ∷ writes-of (drop k (log-records st)) bytes) follow (drop-drop (oldest st left .len) at log);
       }
+
+-- a walk over the whole log of a sound state
+module _ (L : ℕ) (st : State) (n : ℕ) where
+  pub all-remain : length (st .records) ≡ writes-limit → Sound L st n → Remaining L st n 0 (st .count)
+  all-remain sized s =
+      let from-first : st .count - st .count ≡ 0 = sub-self (st .count) in
+      record
+      { sized = sized
+      ; few = s .few
+      ; some = le-refl (st .count)
+      ; inside = ap (λ (k : ℕ). records-inside L (drop k (log-records st))) from-first ∙ s .inside
+      ; room = omega (arith, ap (λ (k : ℕ). together (drop k (log-records st))) from-first, s .room, s .buffer)
+      }
+
+  pub all-writes : (log : List ℕ) → last-writes st (st .count) log 0 ≡ writes-of (log-records st) log
+  all-writes log = ap (λ (k : ℕ). writes-of (drop k (log-records st)) log) (sub-self (st .count))

@@ -14,7 +14,8 @@ ghost use lib.ListN.{length};
 ghost use Rattle.region.specs.Limits.{const-persistence-chunk-size, log-limit};
 ghost use Rattle.replay.specs.AsyncSpec.{size-to-chunks, committed, flush-writes, flush-writes-selective};
 ghost use Rattle.replay.specs.Rows.{row-bytes, rows-at};
-ghost use Rattle.writelog.specs.Log.{last-writes, Remaining};
+ghost use Rattle.writelog.specs.Log.{last-writes, Remaining, kept-records, KeptFrom};
+ghost use Rattle.writelog.specs.State.{log-records};
 
 // The last `left` writes, whose bytes begin at `at`, laid whole over `work`: `flush`.
 pub fn replay_whole(state: State, log: &[u8], work: &mut [u8], at: usize, left: usize)
@@ -54,4 +55,23 @@ pub fn replay_selected(
     let end = at + r.len;
     lay_selected(work, r.addr, &log[at..end], rows, row);
     replay_selected(state, log, rows, width, work, end, row + width, left - 1);
+}
+
+// The pieces that a right table keeps: the set bits among each write's touched chunks, summed.
+pub fn kept(state: State, size: usize, rows: &[u8]) -> usize
+    requires { ⌜ KeptFrom size state (length (now rows)) ⌝ }
+    ensures { λ r. ⌜ r ≡ kept-records const-persistence-chunk-size (log-records state) (rows-at (size-to-chunks const-persistence-chunk-size size) (state .count) (now (rows .entry)) 0) ⌝ }
+{
+    let width = row_bytes(size_to_chunks(size));
+    let count = state.count;
+    let mut sum = 0;
+    let mut row = 0;
+    let mut i = 0;
+    while i < count {
+        let r = state.records[i];
+        sum += set_bits(rows, row, r.addr / CHUNK_SIZE, touched(r.addr, r.len));
+        row += width;
+        i += 1;
+    }
+    sum
 }
