@@ -1,0 +1,6 @@
+-- The laws of cuts.
+pub mod Lengths
+pub mod Basics
+pub mod Column
+pub mod Agree
+pub mod Flush

@@ -1,0 +1,2 @@
+-- The definitions that the laws of cuts are stated with, beside those of `region` and `replay`.
+pub mod Bits
