@@ -4,3 +4,5 @@ pub mod Basics
 pub mod Column
 pub mod Agree
 pub mod Flush
+pub mod Shape
+pub mod OneMore

@@ -1,2 +1,3 @@
 -- The definitions that the laws of cuts are stated with, beside those of `region` and `replay`.
 pub mod Bits
+pub mod Shape
