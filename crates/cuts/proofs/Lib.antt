@@ -6,3 +6,5 @@ pub mod Agree
 pub mod Flush
 pub mod Shape
 pub mod OneMore
+pub mod PartWrites
+pub mod Prophecy

@@ -12,6 +12,10 @@ use Rattle.replay.specs.Choice.{touches}
 abbrev pub no-write : Write
 no-write = record { addr = 0; bytes = [] }
 
+-- the write that `write` puts to the end of the log
+abbrev pub new-write : ℕ → List ℕ → Write
+new-write addr bytes = record { addr = addr; bytes = bytes }
+
 -- write j of a log
 abbrev pub write-at : List Write → ℕ → Write
 write-at ws j = getD ws j no-write

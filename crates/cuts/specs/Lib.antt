@@ -1,3 +1,4 @@
 -- The definitions that the laws of cuts are stated with, beside those of `region` and `replay`.
 pub mod Bits
 pub mod Shape
+pub mod Prophecy
