@@ -8,3 +8,5 @@ pub mod Shape
 pub mod OneMore
 pub mod PartWrites
 pub mod Prophecy
+pub mod Digits
+pub mod Choices

@@ -2,3 +2,4 @@
 pub mod Bits
 pub mod Shape
 pub mod Prophecy
+pub mod Number

@@ -1,0 +1,21 @@
+-- The choice number of a list of rows: point i is kept exactly if bit i is 1, points counted oldest write first and lowest chunk first.
+use Prim.Native.Nat.{ℕ, zero, suc, _+_, _*_}
+use mathlib.Core.Bool.{Bool, false, cond}
+use mathlib.Core.List.{List, [], _∷_}
+use lib.ListN.{length, getD, drop}
+use Rattle.replay.specs.AsyncSpec.{Write, addr-to-chunk}
+use Rattle.replay.specs.Choice.{touched}
+
+-- the bits f from, f (from + 1), .., n of them, lowest first, put below the bits of hi
+unfoldable pub bits-below : ℕ → (ℕ → Bool) → ℕ → ℕ → ℕ
+bits-below hi f from zero = hi
+bits-below hi f from (suc n) = bits-below hi f (suc from) n * 2 + cond (f from) 1 0
+
+unfoldable pub number-of : ℕ → List Write → List (List Bool) → ℕ
+number-of C [] rows = 0
+number-of C (w ∷ ws) rows =
+    bits-below
+    (number-of C ws (drop 1 rows))
+    (λ c. getD (getD rows 0 []) c false)
+    (addr-to-chunk C (w .addr))
+    (touched C (w .addr) (length (w .bytes)))
