@@ -30,8 +30,7 @@ module _ (C K : ℕ) where
       → row-bit-at (rows-of C K ws m) j c
       ≡ (touches-chunk C (write-at ws j) c && bit m (points C (take j ws) + (c - addr-to-chunk C ((write-at ws j) .addr))))
   unfolding rows-of row-of points
-  bit-of-choice [] m zero c h = rw (nothing-touched C c)
-  bit-of-choice [] m (suc j) c h = rw (nothing-touched C c)
+  bit-of-choice [] m j c h = rw (nothing-touched C c)
   bit-of-choice (w ∷ ws) m zero c h = getD-tab _ K c false h ∙ rw zero-add
   bit-of-choice (w ∷ ws) m (suc j) c h =
       let t = touched C (w .addr) (length (w .bytes)) in

@@ -10,3 +10,5 @@ pub mod PartWrites
 pub mod Prophecy
 pub mod Digits
 pub mod Choices
+pub mod Nothing
+pub mod Numbers

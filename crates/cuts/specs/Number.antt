@@ -3,8 +3,9 @@ use Prim.Native.Nat.{ℕ, zero, suc, _+_, _*_}
 use mathlib.Core.Bool.{Bool, false, cond}
 use mathlib.Core.List.{List, [], _∷_}
 use lib.ListN.{length, getD, drop}
-use Rattle.replay.specs.AsyncSpec.{Write, addr-to-chunk}
-use Rattle.replay.specs.Choice.{touched}
+use Rattle.replay.specs.AsyncSpec.{Write, AsyncView, addr-to-chunk, flush-selective}
+use Rattle.replay.specs.Choice.{touched, points, rows-of}
+use Rattle.cuts.specs.Bits.{chunks}
 
 -- the bits f from, f (from + 1), .., n of them, lowest first, put below the bits of hi
 unfoldable pub bits-below : ℕ → (ℕ → Bool) → ℕ → ℕ → ℕ
@@ -19,3 +20,11 @@ number-of C (w ∷ ws) rows =
     (λ c. getD (getD rows 0 []) c false)
     (addr-to-chunk C (w .addr))
     (touched C (w .addr) (length (w .bytes)))
+
+-- the image that a cut by choice number m leaves
+abbrev pub choice-image : ℕ → AsyncView → ℕ → List ℕ
+choice-image C v m = flush-selective C v (rows-of C (chunks C v) (v .outstanding-writes) m)
+
+-- document 01's n of a view: "the number of choice points"
+abbrev pub choice-points : ℕ → AsyncView → ℕ
+choice-points C v = points C (v .outstanding-writes)
