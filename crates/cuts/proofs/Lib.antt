@@ -12,3 +12,5 @@ pub mod Digits
 pub mod Choices
 pub mod Nothing
 pub mod Numbers
+pub mod Packed
+pub mod Tables

@@ -3,3 +3,4 @@ pub mod Bits
 pub mod Shape
 pub mod Prophecy
 pub mod Number
+pub mod Packed
