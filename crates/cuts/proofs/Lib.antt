@@ -14,3 +14,5 @@ pub mod Nothing
 pub mod Numbers
 pub mod Packed
 pub mod Tables
+pub mod Kept
+pub mod Within
