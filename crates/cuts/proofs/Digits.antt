@@ -1,7 +1,6 @@
 -- A number built from given bits has those bits, and the bits above them. Assumes nothing.
 use Prim.Native.Nat.{ℕ, zero, suc, _+_, _-_, _*_, _/_, _%_, _^_, _≤_, _<_}
-use native.Mathlib.Nat.{zero-add, add-zero, add-suc, suc-add, add-comm, div-one, not-suc-le-zero, le-of-suc-le-suc}
-use native.Mathlib.Numerals.{add-one}
+use native.Mathlib.Nat.{zero-add, add-zero, add-suc, suc-add, div-one, not-suc-le-zero, le-of-suc-le-suc}
 use native.Mathlib.Omega.{arith}
 use mathlib.Core.Path.{_≡_, refl, sym, ap, ap₂, _∙_}
 use mathlib.Core.Bool.{Bool, true, false, cond}
@@ -13,6 +12,16 @@ use Rattle.cuts.specs.Number.{bits-below}
 
 pub bit-of-shift : (m t k : ℕ) → bit (m / 2 ^ t) k ≡ bit m (t + k)
 bit-of-shift m t k = ap (λ x. eqb (x % 2) 1) (shr-shr m t k)
+
+-- one place further is a place further in the half
+one-more : (k : ℕ) → suc k ≡ 1 + k
+one-more k = omega arith
+
+pub shr-suc : (m n : ℕ) → m / 2 ^ suc n ≡ m / 2 / 2 ^ n
+shr-suc m n = ap (λ x. m / 2 ^ x) (one-more n) ∙ sym (shr-shr m 1 n)
+
+pub bit-suc : (m k : ℕ) → bit m (suc k) ≡ bit (m / 2) k
+bit-suc m k = ap (λ x. eqb (x % 2) 1) (shr-suc m k)
 
 digit-lt : (b : Bool) → cond b 1 0 < 2
 digit-lt true = lit< tt
@@ -27,9 +36,7 @@ lowest : (hi : ℕ) (b : Bool) → bit (hi * 2 + cond b 1 0) 0 ≡ b
 lowest hi b = ap (λ x. eqb (x % 2) 1) (div-one (hi * 2 + cond b 1 0)) ∙ ap (λ x. eqb x 1) (digits-mod hi (digit-lt b)) ∙ digit-bit b
 
 above : (hi : ℕ) (b : Bool) (k : ℕ) → bit (hi * 2 + cond b 1 0) (suc k) ≡ bit hi k
-above hi b k =
-    ap (bit (hi * 2 + cond b 1 0)) (sym (add-one k) ∙ add-comm k 1) ∙ sym (bit-of-shift (hi * 2 + cond b 1 0) 1 k)
-    ∙ ap (λ x. bit x k) (digits-div hi (digit-lt b))
+above hi b k = bit-suc (hi * 2 + cond b 1 0) k ∙ ap (λ x. bit x k) (digits-div hi (digit-lt b))
 
 module _ (hi : ℕ) (f : ℕ → Bool) where
   pub bit-of-bits-below : (from n k : ℕ) → k < n → bit (bits-below hi f from n) k ≡ f (from + k)
@@ -44,8 +51,8 @@ module _ (hi : ℕ) (f : ℕ → Bool) where
   unfolding bits-below
   bits-below-high from zero = div-one hi
   bits-below-high from (suc n) =
-      ap (λ x. bits-below hi f from (suc n) / 2 ^ x) (sym (add-one n) ∙ add-comm n 1) ∙ sym (shr-shr (bits-below hi f from (suc n)) 1 n)
-      ∙ ap (λ x. x / 2 ^ n) (digits-div (bits-below hi f (suc from) n) (digit-lt (f from))) ∙ bits-below-high (suc from) n
+      shr-suc (bits-below hi f from (suc n)) n ∙ ap (λ x. x / 2 ^ n) (digits-div (bits-below hi f (suc from) n) (digit-lt (f from)))
+      ∙ bits-below-high (suc from) n
 
   pub bits-below-lt : (from n k : ℕ) → hi < 2 ^ k → bits-below hi f from n < 2 ^ (n + k)
   unfolding bits-below

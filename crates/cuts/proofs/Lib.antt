@@ -16,3 +16,4 @@ pub mod Packed
 pub mod Tables
 pub mod Kept
 pub mod Within
+pub mod Ones
