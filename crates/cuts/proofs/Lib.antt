@@ -17,3 +17,4 @@ pub mod Tables
 pub mod Kept
 pub mod Within
 pub mod Ones
+pub mod Always
