@@ -18,3 +18,4 @@ pub mod Kept
 pub mod Within
 pub mod Ones
 pub mod Always
+pub mod Pairs
