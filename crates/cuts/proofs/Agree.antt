@@ -5,6 +5,7 @@ use mathlib.Core.Bool.{Bool, true, false}
 use mathlib.Core.List.{List}
 use lib.ListN.{length}
 use lib.Seq.{ext-getD}
+use Rattle.region.specs.Pmemspec.{chunk-corresponds}
 use Rattle.replay.specs.AsyncSpec.{Write, AsyncView, flush-writes-selective, flush-selective, size-to-chunks}
 use Rattle.cuts.specs.Bits.{write-at, row-bit-at, touches-chunk, agree-on-touched, keeps-all, chunks}
 use Rattle.cuts.proofs.Lengths.{length-flush-writes-selective}
@@ -37,3 +38,9 @@ module _ (C : ℕ) (C⁺ : 0 < C) where
   pub untouched-bits-change-nothing : (v : AsyncView) (rows rows′ : List (List Bool)) → agree-on-touched C (chunks C v) (v .outstanding-writes) rows rows′
       → flush-selective C v rows ≡ flush-selective C v rows′
   untouched-bits-change-nothing v rows rows′ a = same-touched-bits-same-replay (v .state-at-last-flush) (v .outstanding-writes) rows rows′ a
+
+-- the bytes of a chunk go by its own column of the rows
+pub chunk-goes-by-its-column : (C : ℕ) (v : AsyncView) (rows rows′ : List (List Bool)) (chunk : ℕ)
+    → ((j : ℕ) → row-bit-at rows j chunk ≡ row-bit-at rows′ j chunk) → chunk-corresponds C (flush-selective C v rows) (flush-selective C v rows′) chunk
+chunk-goes-by-its-column C v rows rows′ chunk a i h e =
+    column-alone C i (v .state-at-last-flush) (v .state-at-last-flush) (v .outstanding-writes) rows rows′ refl refl (λ j k. rw e (a j))

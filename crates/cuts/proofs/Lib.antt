@@ -7,7 +7,6 @@ pub mod Flush
 pub mod Shape
 pub mod OneMore
 pub mod PartWrites
-pub mod Prophecy
 pub mod Digits
 pub mod Choices
 pub mod Nothing
@@ -19,3 +18,4 @@ pub mod Within
 pub mod Ones
 pub mod Always
 pub mod Pairs
+pub mod Prophecy

@@ -1,33 +1,38 @@
--- One write more at the end of the log is laid over what the log before it leaves, by a cut and by a flush. Assumes nothing.
+-- A longer log is replayed over what its older part leaves, by a cut and by a flush: so one write more is laid over the replay before it.
+-- Assumes nothing.
 use Prim.Native.Nat.{ℕ, zero, suc}
 use native.Mathlib.Omega.{arith}
-use mathlib.Core.Path.{_≡_, refl}
+use mathlib.Core.Path.{_≡_, refl, ap}
 use mathlib.Core.Bool.{Bool}
 use mathlib.Core.List.{List, [], _∷_, _++_}
 use lib.ListN.{length, getD}
 use Rattle.region.specs.Pmemspec.{update-bytes}
 use Rattle.replay.specs.AsyncSpec.{Write, AsyncView, apply-write, apply-write-selective, flush-writes, flush-writes-selective, flush-selective, readable, write}
+use Rattle.cuts.specs.Bits.{new-write}
 
-pub one-write-more : (C : ℕ) (s : List ℕ) (ws : List Write) (w : Write) (rows : List (List Bool)) (row : List Bool) → length rows ≡ length ws
-    → flush-writes-selective C s (ws ++ (w ∷ [])) (rows ++ (row ∷ [])) ≡ apply-write-selective C (flush-writes-selective C s ws rows) w row
+-- a replay of two logs, one after the other, with the rows of each
+pub replay-in-two : (C : ℕ) (s : List ℕ) (ws ws′ : List Write) (rows rows′ : List (List Bool)) → length rows ≡ length ws
+    → flush-writes-selective C s (ws ++ ws′) (rows ++ rows′) ≡ flush-writes-selective C (flush-writes-selective C s ws rows) ws′ rows′
 unfolding flush-writes-selective
-one-write-more C s [] w [] row l = refl
-one-write-more C s [] w (r ∷ rows) row l = absurd (omega arith)
-one-write-more C s (x ∷ ws) w [] row l = absurd (omega arith)
-one-write-more C s (x ∷ ws) w (r ∷ rows) row l = one-write-more C (apply-write-selective C s x r) ws w rows row (omega arith)
+replay-in-two C s [] ws′ [] rows′ l = refl
+replay-in-two C s [] ws′ (r ∷ rows) rows′ l = absurd (omega arith)
+replay-in-two C s (w ∷ ws) ws′ [] rows′ l = absurd (omega arith)
+replay-in-two C s (w ∷ ws) ws′ (r ∷ rows) rows′ l = replay-in-two C (apply-write-selective C s w r) ws ws′ rows rows′ (omega arith)
 
-one-write-more-read : (s : List ℕ) (ws : List Write) (w : Write)
-    → (flush-writes s (ws ++ (w ∷ []))) .state-at-last-flush ≡ apply-write ((flush-writes s ws) .state-at-last-flush) w
+pub read-in-two : (s : List ℕ) (ws ws′ : List Write) → flush-writes s (ws ++ ws′) ≡ flush-writes ((flush-writes s ws) .state-at-last-flush) ws′
 unfolding flush-writes
-one-write-more-read s [] w = refl
-one-write-more-read s (x ∷ ws) w = one-write-more-read (apply-write s x) ws w
+read-in-two s [] ws′ = refl
+read-in-two s (w ∷ ws) ws′ = read-in-two (apply-write s w) ws ws′
 
 pub cut-of-a-write : (C : ℕ) (v : AsyncView) (addr : ℕ) (bytes : List ℕ) (rows : List (List Bool)) (row : List Bool)
     → length rows ≡ length (v .outstanding-writes)
     → flush-selective C (write v addr bytes) (rows ++ (row ∷ []))
-    ≡ apply-write-selective C (flush-selective C v rows) (record { addr = addr; bytes = bytes }) row
+    ≡ apply-write-selective C (flush-selective C v rows) (new-write addr bytes) row
+unfolding flush-writes-selective
 cut-of-a-write C v addr bytes rows row l =
-    one-write-more C (v .state-at-last-flush) (v .outstanding-writes) (record { addr = addr; bytes = bytes }) rows row l
+    replay-in-two C (v .state-at-last-flush) (v .outstanding-writes) (new-write addr bytes ∷ []) rows (row ∷ []) l
 
 pub read-of-a-write : (v : AsyncView) (addr : ℕ) (bytes : List ℕ) → readable (write v addr bytes) ≡ update-bytes (readable v) addr bytes
-read-of-a-write v addr bytes = one-write-more-read (v .state-at-last-flush) (v .outstanding-writes) (record { addr = addr; bytes = bytes })
+unfolding flush-writes
+read-of-a-write v addr bytes =
+    ap (λ x. x .state-at-last-flush) (read-in-two (v .state-at-last-flush) (v .outstanding-writes) (new-write addr bytes ∷ []))

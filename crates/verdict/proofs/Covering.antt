@@ -20,6 +20,7 @@ module _ (rule : Rule) (Real : List ℕ → List ℕ → Type 0) (before after :
       to e b a r =
           let found = c .covered b a r in
           sym (found .2) ∙ admits-exactly-if-all-good test N .0 e (found .0) (found .1)
+
       from : ((b a : List ℕ) → Real b a → rule b a ≡ true) → verdict test N ≡ admit
       from f = admits-exactly-if-all-good test N .1 (λ m h. f (before m) (after m) (c .real m h))
 

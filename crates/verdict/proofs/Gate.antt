@@ -24,14 +24,14 @@ module _ (C : ℕ) (C⁺ : 0 < C) (v : AsyncView) (addr : ℕ) (bytes : List ℕ
       record {
         real = λ m h. (number-crashes C C⁺ v m, choice-is-part-write C C⁺ v addr bytes m);
         covered = λ b a r. let found = pairs-cover C C⁺ v addr bytes b a .0 r in
-        (found .0, found .1, ap₂ rule (sym (found .2)) (sym (found .3)));
+            (found .0, found .1, ap₂ rule (sym (found .2)) (sym (found .3)));
       }
 
   pub gate-judges : (rule : Rule) → Judges C rule v addr bytes (gate-verdict C rule v addr bytes)
   gate-judges rule =
       record {
         admits = covering-admits rule (could-make C v addr bytes) (choice-image C v) (choice-image C (write v addr bytes)) (gate-numbers C v addr bytes)
-        (choice-numbers-cover rule);
+            (choice-numbers-cover rule);
         denies = denies-exactly-the-least-bad (gate-test C rule v addr bytes) (gate-numbers C v addr bytes);
       }
 
@@ -40,8 +40,8 @@ module _ (C : ℕ) (C⁺ : 0 < C) (v : AsyncView) (addr : ℕ) (bytes : List ℕ
       record {
         admits = (
           λ e x h. let made = part-writes C C⁺ v addr bytes x .0 h in
-          judged .admits .0 e (made .0) x (made .1, made .2),
-          λ f. judged .admits .1 (λ b a r. f a (part-writes C C⁺ v addr bytes a .1 (b, r .0, r .1)))
+              judged .admits .0 e (made .0) x (made .1, made .2),
+          λ f. judged .admits .1 (λ b a r. f a (part-writes C C⁺ v addr bytes a .1 (b, r .0, r .1))),
         );
         denies = judged .denies;
         denied-image = λ m e. number-crashes C C⁺ (write v addr bytes) m;
