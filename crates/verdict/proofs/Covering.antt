@@ -1,5 +1,4 @@
--- The search over a covering admits exactly if every real pair obeys the rule, and otherwise names the least number of the covering whose pair does
--- not, which is a real one. Assumes nothing.
+-- The search over a covering admits exactly if every real pair obeys the rule, and denies exactly if some real pair does not. Assumes nothing.
 use Prim.Native.Nat.{ℕ, _<_}
 use mathlib.Core.Path.{_≡_, sym, _∙_}
 use mathlib.Core.Logic.{_↔_}
@@ -24,13 +23,16 @@ module _ (rule : Rule) (Real : List ℕ → List ℕ → Type 0) (before after :
       from : ((b a : List ℕ) → Real b a → rule b a ≡ true) → verdict test N ≡ admit
       from f = admits-exactly-if-all-good test N .1 (λ m h. f (before m) (after m) (c .real m h))
 
-  -- what is denied with m is a real pair that breaks the rule, and a real pair that breaks it is denied
-  pub covering-denies : (m : ℕ) → verdict test N ≡ deny m → Real (before m) (after m) × (rule (before m) (after m) ≡ false)
-  covering-denies m e =
-      let least = denies-exactly-the-least-bad test N m .0 e in
-      (c .real m (least .below), least .bad)
+  -- it denies exactly if some real pair breaks the rule
+  pub covering-denies : ((m : ℕ) × (verdict test N ≡ deny m)) ↔ ((b : List ℕ) × (a : List ℕ) × Real b a × (rule b a ≡ false))
+  covering-denies = (to, from)
+    where
+      to : ((m : ℕ) × (verdict test N ≡ deny m)) → (b : List ℕ) × (a : List ℕ) × Real b a × (rule b a ≡ false)
+      to (m, e) =
+          let least = denies-exactly-the-least-bad test N m .0 e in
+          (before m, after m, c .real m (least .below), least .bad)
 
-  pub covering-finds : (b a : List ℕ) → Real b a → rule b a ≡ false → (m : ℕ) × (verdict test N ≡ deny m)
-  covering-finds b a r bad =
-      let found = c .covered b a r in
-      bad-number-denied test N (found .0) (found .1) (found .2 ∙ bad)
+      from : ((b : List ℕ) × (a : List ℕ) × Real b a × (rule b a ≡ false)) → (m : ℕ) × (verdict test N ≡ deny m)
+      from (b, a, r, bad) =
+          let found = c .covered b a r in
+          bad-number-denied test N (found .0) (found .1) (found .2 ∙ bad)

@@ -13,9 +13,9 @@ use Rattle.cuts.proofs.PartWrites.{part-writes}
 use Rattle.cuts.proofs.Pairs.{choice-is-part-write, pairs-cover}
 use Rattle.verdict.specs.Search.{Verdict, admit, deny, verdict, least-bad}
 use Rattle.verdict.specs.Covering.{Rule, after-alone, Covering}
-use Rattle.verdict.specs.Gate.{gate-numbers, gate-test, gate-verdict, gate-image, could-make, Judges, Gate-theorem}
+use Rattle.verdict.specs.Gate.{gate-numbers, gate-test, gate-verdict, gate-image, could-make, judges-pairs, judges-images}
 use Rattle.verdict.proofs.Search.{denies-exactly-the-least-bad}
-use Rattle.verdict.proofs.Covering.{covering-admits}
+use Rattle.verdict.proofs.Covering.{covering-admits, covering-denies}
 
 module _ (C : ℕ) (C⁺ : 0 < C) (v : AsyncView) (addr : ℕ) (bytes : List ℕ) where
   pub choice-numbers-cover : (rule : Rule)
@@ -27,36 +27,52 @@ module _ (C : ℕ) (C⁺ : 0 < C) (v : AsyncView) (addr : ℕ) (bytes : List ℕ
             (found .0, found .1, ap₂ rule (sym (found .2)) (sym (found .3)));
       }
 
-  pub gate-judges : (rule : Rule) → Judges C rule v addr bytes (gate-verdict C rule v addr bytes)
-  gate-judges rule =
+  pub gate-judges-pairs : (rule : Rule) → judges-pairs C rule v addr bytes (gate-verdict C rule v addr bytes)
+  gate-judges-pairs rule =
+      let before = choice-image C v in
+      let after = choice-image C (write v addr bytes) in
       record {
-        admits = covering-admits rule (could-make C v addr bytes) (choice-image C v) (choice-image C (write v addr bytes)) (gate-numbers C v addr bytes)
-            (choice-numbers-cover rule);
-        denies = denies-exactly-the-least-bad (gate-test C rule v addr bytes) (gate-numbers C v addr bytes);
+        admits = covering-admits rule (could-make C v addr bytes) before after (gate-numbers C v addr bytes) (choice-numbers-cover rule);
+        denies = covering-denies rule (could-make C v addr bytes) before after (gate-numbers C v addr bytes) (choice-numbers-cover rule);
+        names-the-first = denies-exactly-the-least-bad (gate-test C rule v addr bytes) (gate-numbers C v addr bytes);
       }
 
-  pub gate-theorem : (obeys : List ℕ → Bool) → Gate-theorem C obeys v addr bytes (gate-verdict C (after-alone obeys) v addr bytes)
-  gate-theorem obeys =
+  -- the theorem of the gate
+  pub gate-judges-images : (obeys : List ℕ → Bool) → judges-images C obeys v addr bytes (gate-verdict C (after-alone obeys) v addr bytes)
+  gate-judges-images obeys =
       record {
         admits = (
-          λ e x h. let made = part-writes C C⁺ v addr bytes x .0 h in
-              judged .admits .0 e (made .0) x (made .1, made .2),
-          λ f. judged .admits .1 (λ b a r. f a (part-writes C C⁺ v addr bytes a .1 (b, r .0, r .1))),
+          λ e x h. let made = cuts x .0 h in
+              pairs .admits .0 e (made .0) x (made .1, made .2),
+          λ f. pairs .admits .1 (λ b a r. f a (cuts a .1 (b, r .0, r .1))),
         );
-        denies = judged .denies;
-        denied-image = λ m e. number-crashes C C⁺ (write v addr bytes) m;
-        as-part-writes = part-writes C C⁺ v addr bytes;
+        denies = (
+          λ d. let bad = pairs .denies .0 d in
+              (bad .1, cuts (bad .1) .1 (bad .0, bad .2 .0, bad .2 .1), bad .3),
+          λ d. let made = cuts (d .0) .0 (d .1) in
+              pairs .denies .1 (made .0, d .0, (made .1, made .2), d .2),
+        );
+        names-the-first = pairs .names-the-first;
+        by-part-writes = (λ e b a h p. pairs .admits .0 e b a (h, p), λ f. pairs .admits .1 (λ b a r. f b a (r .0) (r .1)));
       }
     where
-      judged : Judges C (after-alone obeys) v addr bytes (gate-verdict C (after-alone obeys) v addr bytes)
-      judged = gate-judges (after-alone obeys)
+      pairs : judges-pairs C (after-alone obeys) v addr bytes (gate-verdict C (after-alone obeys) v addr bytes)
+      pairs = gate-judges-pairs (after-alone obeys)
+
+      cuts : (x : List ℕ) → can-crash C (write v addr bytes) x ↔ ((b : List ℕ) × can-crash C v b × can-result-from-partial-write C x b addr bytes)
+      cuts = part-writes C C⁺ v addr bytes
 
   -- an admitted search ends on the read image: its last trial is the working image already
   pub last-trial-is-the-read-image : choice-image C (write v addr bytes) (gate-numbers C v addr bytes - 1) ≡ gate-image C v addr bytes admit
   last-trial-is-the-read-image = last-number-leaves-the-read-image C C⁺ (write v addr bytes)
 
 -- the meaning leaves no choice: any two verdicts that judge so are one
-pub judges-pins : (C : ℕ) (rule : Rule) (v : AsyncView) (addr : ℕ) (bytes : List ℕ) (r r′ : Verdict)
-    → Judges C rule v addr bytes r → Judges C rule v addr bytes r′ → r ≡ r′
-judges-pins C rule v addr bytes admit r′ j j′ = sym (j′ .admits .1 (j .admits .0 refl))
-judges-pins C rule v addr bytes (deny m) r′ j j′ = sym (j′ .denies m .1 (j .denies m .0 refl))
+pub judges-pairs-pins : (C : ℕ) (rule : Rule) (v : AsyncView) (addr : ℕ) (bytes : List ℕ) (r r′ : Verdict)
+    → judges-pairs C rule v addr bytes r → judges-pairs C rule v addr bytes r′ → r ≡ r′
+judges-pairs-pins C rule v addr bytes admit r′ j j′ = sym (j′ .admits .1 (j .admits .0 refl))
+judges-pairs-pins C rule v addr bytes (deny m) r′ j j′ = sym (j′ .names-the-first m .1 (j .names-the-first m .0 refl))
+
+pub judges-images-pins : (C : ℕ) (obeys : List ℕ → Bool) (v : AsyncView) (addr : ℕ) (bytes : List ℕ) (r r′ : Verdict)
+    → judges-images C obeys v addr bytes r → judges-images C obeys v addr bytes r′ → r ≡ r′
+judges-images-pins C obeys v addr bytes admit r′ j j′ = sym (j′ .admits .1 (j .admits .0 refl))
+judges-images-pins C obeys v addr bytes (deny m) r′ j j′ = sym (j′ .names-the-first m .1 (j .names-the-first m .0 refl))

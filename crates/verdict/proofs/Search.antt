@@ -82,3 +82,20 @@ module _ (test : ℕ → Bool) where
         go : {r : Verdict} → Settled test 0 N r → verdict test N ≡ r → (k : ℕ) × (verdict test N ≡ deny k)
         go (all f) e = absurd (not-both m (f m (omega arith) (omega arith)) b)
         go (first {m = k} l i c f) e = (k, e)
+
+-- How a loop goes through the search: what remains to be tried, from here, is the answer.
+pub verdict-at-start : (test : ℕ → Bool) (N : ℕ) → verdict test N ≡ verdict-from test 0 N
+unfolding verdict
+verdict-at-start test N = refl
+
+pub verdict-goes-on : (test : ℕ → Bool) (at n : ℕ) → test at ≡ true → verdict-from test at (suc n) ≡ verdict-from test (suc at) n
+unfolding verdict-from
+verdict-goes-on test at n e = rw (e, verdict-from)
+
+pub verdict-stops : (test : ℕ → Bool) (at n : ℕ) → test at ≡ false → verdict-from test at (suc n) ≡ deny at
+unfolding verdict-from
+verdict-stops test at n e = rw (e, verdict-from)
+
+pub verdict-at-end : (test : ℕ → Bool) (at : ℕ) → verdict-from test at 0 ≡ admit
+unfolding verdict-from
+verdict-at-end test at = refl

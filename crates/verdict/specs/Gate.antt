@@ -2,7 +2,7 @@
 use Prim.Native.Nat.{ℕ, _^_, _<_}
 use mathlib.Core.Path.{_≡_}
 use mathlib.Core.Logic.{_↔_}
-use mathlib.Core.Bool.{Bool, true}
+use mathlib.Core.Bool.{Bool, true, false}
 use mathlib.Core.List.{List}
 use Rattle.region.specs.Pmemspec.{can-result-from-partial-write}
 use Rattle.replay.specs.AsyncSpec.{AsyncView, write, readable, can-crash}
@@ -30,16 +30,18 @@ gate-image C v addr bytes (deny m) = choice-image C (write v addr bytes) m
 abbrev pub could-make : ℕ → AsyncView → ℕ → List ℕ → List ℕ → List ℕ → Type 0
 could-make C v addr bytes b a = can-crash C v b × can-result-from-partial-write C a b addr bytes
 
--- the verdict on a rule of two images
-pub record Judges (C : ℕ) (rule : Rule) (v : AsyncView) (addr : ℕ) (bytes : List ℕ) (r : Verdict) : Type 0 where
+-- what the verdict on a rule of two images means
+pub record judges-pairs (C : ℕ) (rule : Rule) (v : AsyncView) (addr : ℕ) (bytes : List ℕ) (r : Verdict) : Type 0 where
   pub admits : (r ≡ admit) ↔ ((b a : List ℕ) → could-make C v addr bytes b a → rule b a ≡ true)
-  pub denies : (m : ℕ) → (r ≡ deny m) ↔ least-bad (gate-test C rule v addr bytes) (gate-numbers C v addr bytes) m
+  pub denies : ((m : ℕ) × (r ≡ deny m)) ↔ ((b : List ℕ) × (a : List ℕ) × could-make C v addr bytes b a × (rule b a ≡ false))
+  pub names-the-first : (m : ℕ) → (r ≡ deny m) ↔ least-bad (gate-test C rule v addr bytes) (gate-numbers C v addr bytes) m
 
--- the verdict on a sheet of one image: "admits a write exactly when .. every image that a cut could then leave obeys the rule sheet; when it
--- denies, it names the first bad one", and the images are the part-writes over all present cut images
-pub record Gate-theorem (C : ℕ) (obeys : List ℕ → Bool) (v : AsyncView) (addr : ℕ) (bytes : List ℕ) (r : Verdict) : Type 0 where
+-- demand 2, for a sheet of one image: "admits a write exactly when .. every image that a cut could then leave obeys the rule sheet; when it denies,
+-- it names the first bad one". The images are the part-writes over all present cut images.
+pub record judges-images (C : ℕ) (obeys : List ℕ → Bool) (v : AsyncView) (addr : ℕ) (bytes : List ℕ) (r : Verdict) : Type 0 where
   pub admits : (r ≡ admit) ↔ ((x : List ℕ) → can-crash C (write v addr bytes) x → obeys x ≡ true)
-  pub denies : (m : ℕ)
+  pub denies : ((m : ℕ) × (r ≡ deny m)) ↔ ((x : List ℕ) × can-crash C (write v addr bytes) x × (obeys x ≡ false))
+  pub names-the-first : (m : ℕ)
       → (r ≡ deny m) ↔ least-bad (λ k. obeys (choice-image C (write v addr bytes) k)) (gate-numbers C v addr bytes) m
-  pub denied-image : (m : ℕ) → r ≡ deny m → can-crash C (write v addr bytes) (choice-image C (write v addr bytes) m)
-  pub as-part-writes : (x : List ℕ) → can-crash C (write v addr bytes) x ↔ ((b : List ℕ) × can-crash C v b × can-result-from-partial-write C x b addr bytes)
+  pub by-part-writes : (r ≡ admit)
+      ↔ ((b a : List ℕ) → can-crash C v b → can-result-from-partial-write C a b addr bytes → obeys a ≡ true)
