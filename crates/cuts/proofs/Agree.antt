@@ -1,13 +1,13 @@
 -- Rows that agree in the chunks that the writes touch leave the same image: only those bits choose anything. Assumes nothing.
 use Prim.Native.Nat.{ℕ, _/_, _<_}
 use mathlib.Core.Path.{_≡_, refl, sym, _∙_}
-use mathlib.Core.Bool.{Bool, true, false}
+use mathlib.Core.Bool.{Bool}
 use mathlib.Core.List.{List}
 use lib.ListN.{length}
 use lib.Seq.{ext-getD}
 use Rattle.region.specs.Pmemspec.{chunk-corresponds}
 use Rattle.replay.specs.AsyncSpec.{Write, AsyncView, flush-writes-selective, flush-selective, size-to-chunks}
-use Rattle.cuts.specs.Bits.{write-at, row-bit-at, touches-chunk, agree-on-touched, keeps-all, chunks}
+use Rattle.cuts.specs.Bits.{write-at, row-bit-at, agree-on-touched, chunks}
 use Rattle.cuts.proofs.Lengths.{length-flush-writes-selective}
 use Rattle.cuts.proofs.Basics.{chunk-below, covered-is-touched}
 use Rattle.cuts.proofs.Column.{column-alone}

@@ -2,14 +2,11 @@
 -- empty log there is one image. Assumes nothing.
 use Prim.Native.Nat.{ℕ, _-_, _^_, _<_}
 use native.Mathlib.Nat.{not-suc-le-zero}
-use mathlib.Core.Path.{_≡_, refl, sym, _∙_}
+use mathlib.Core.Path.{_≡_, refl}
 use mathlib.Core.Logic.{_↔_}
-use mathlib.Core.Bool.{Bool}
 use mathlib.Core.List.{List, []}
-use lib.ListN.{length}
 use Rattle.replay.specs.AsyncSpec.{AsyncView, flush, flush-writes-selective, committed, readable, write, can-crash}
-use Rattle.cuts.specs.Number.{choice-image, choice-points}
-use Rattle.cuts.proofs.Shape.{shaped-rows-crash}
+use Rattle.cuts.specs.Number.{choice-points}
 use Rattle.cuts.proofs.Flush.{flush-leaves-the-read-image}
 use Rattle.cuts.proofs.PartWrites.{no-write-is-part-write, part-writes}
 use Rattle.cuts.proofs.Numbers.{number-crashes, last-number-leaves-the-read-image, number-zero-leaves-the-last-flush}

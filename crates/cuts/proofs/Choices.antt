@@ -1,16 +1,16 @@
 -- What the rows of a choice number are, bit by bit, and their shape. Assumes nothing.
-use Prim.Native.Nat.{ℕ, zero, suc, _+_, _-_, _/_, _^_, _≤_, _<_}
+use Prim.Native.Nat.{ℕ, zero, suc, _+_, _-_, _/_, _^_, _<_}
 use native.Mathlib.Nat.{zero-add, add-zero, add-assoc, not-suc-le-zero, le-of-suc-le-suc, div-one}
 use native.Mathlib.Decide.{decLt}
 use native.Mathlib.Omega.{arith}
-use mathlib.Core.Path.{_≡_, refl, sym, ap, ap₂, _∙_}
-use mathlib.Core.Bool.{Bool, true, false, _&&_}
+use mathlib.Core.Path.{_≡_, refl, sym, ap, _∙_}
+use mathlib.Core.Bool.{false, _&&_}
 use mathlib.Core.List.{List, [], _∷_, _++_}
 use lib.ListN.{length, getD, take}
 use lib.Pow.{shr-shr}
 use Rattle.region.proofs.Tab.{length-tab, getD-tab, inside-below, inside-above}
 use Rattle.replay.specs.AsyncSpec.{Write, addr-to-chunk}
-use Rattle.replay.specs.Choice.{touched, touches, points, bit, row-of, rows-of}
+use Rattle.replay.specs.Choice.{touched, points, bit, row-of, rows-of}
 use Rattle.cuts.specs.Bits.{no-write, write-at, row-bit-at, touches-chunk}
 use Rattle.cuts.specs.Shape.{has-shape}
 use Rattle.cuts.proofs.Digits.{bit-of-shift}

@@ -1,19 +1,19 @@
 -- The kept count: how it goes by the touched bits alone, and its two ends. Assumes nothing.
-use Prim.Native.Nat.{ℕ, zero, suc, _+_, _-_, _/_, _≤_, _<_}
-use native.Mathlib.Nat.{le-refl, le-trans, add-le-add}
+use Prim.Native.Nat.{ℕ, zero, suc, _+_, _≤_, _<_}
+use native.Mathlib.Nat.{le-refl, add-le-add}
 use native.Mathlib.Omega.{arith}
-use mathlib.Core.Path.{_≡_, refl, sym, ap, ap₂, _∙_}
-use mathlib.Core.Bool.{Bool, true, false, cond, false≢true}
+use mathlib.Core.Path.{_≡_, refl, ap₂, _∙_}
+use mathlib.Core.Bool.{Bool, true, false, cond}
 use mathlib.Core.List.{List, [], _∷_}
 use lib.Dec.{lit≤}
-use lib.ListN.{length, getD, drop}
+use lib.ListN.{length, drop}
 use Rattle.region.proofs.Tab.{inside-in}
-use Rattle.replay.specs.AsyncSpec.{Write, AsyncView, len, valid, within, addr-to-chunk, size-to-chunks}
-use Rattle.replay.specs.Choice.{touched, touches, points}
+use Rattle.replay.specs.AsyncSpec.{Write, addr-to-chunk}
+use Rattle.replay.specs.Choice.{touched, points}
 use Rattle.replay.specs.Rows.{set-bits}
 use Rattle.replay.specs.Kept.{kept, kept-of}
-use Rattle.cuts.specs.Bits.{write-at, row-bit-at, touches-chunk, keeps-all, agree-on-touched, chunks}
-use Rattle.cuts.proofs.Basics.{inside-bounds, getD-tail, chunk-below}
+use Rattle.cuts.specs.Bits.{write-at, row-bit-at, touches-chunk}
+use Rattle.cuts.proofs.Basics.{getD-tail}
 
 at-most-one : (t : Bool) → cond t 1 0 ≤ 1
 at-most-one true = le-refl 1

@@ -6,7 +6,7 @@ use mathlib.Core.List.{List, [], _∷_}
 use lib.ListN.{length, getD, drop}
 use Rattle.region.specs.Pmemspec.{update-bytes}
 use Rattle.region.proofs.Tab.{length-tab}
-use Rattle.replay.specs.AsyncSpec.{Write, AsyncView, len, apply-write, apply-write-selective, flush-writes, flush-writes-selective, flush, flush-selective, readable}
+use Rattle.replay.specs.AsyncSpec.{Write, AsyncView, len, apply-write, apply-write-selective, flush-writes, flush-writes-selective, flush, flush-selective}
 
 pub length-apply-write : (s : List ℕ) (w : Write) → length (apply-write s w) ≡ length s
 unfolding update-bytes

@@ -1,9 +1,8 @@
 -- A cut that keeps nothing leaves the image at the last flush. Assumes nothing.
-use Prim.Native.Nat.{ℕ, _/_, _<_}
-use mathlib.Core.Path.{_≡_, refl, sym, ap, _∙_}
+use Prim.Native.Nat.{ℕ, _<_}
+use mathlib.Core.Path.{_≡_, refl, ap, _∙_}
 use mathlib.Core.Bool.{Bool, true, false, and-false}
 use mathlib.Core.List.{List, [], _∷_}
-use lib.ListN.{length, getD}
 use lib.Seq.{ext-getD}
 use Rattle.replay.specs.AsyncSpec.{Write, AsyncView, apply-write-selective, flush-writes-selective, flush-selective, committed}
 use Rattle.cuts.specs.Bits.{write-at, row-bit-at, covers, touches-chunk, chunks}

@@ -1,19 +1,19 @@
 -- Choice numbers below 2 ^ n and rows leave the same images: each list of rows has a number whose rows agree with it in every touched chunk, and a
 -- number's rows have the shape that a cut wants. Assumes nothing.
-use Prim.Native.Nat.{ℕ, zero, suc, _+_, _-_, _/_, _^_, _≤_, _<_}
-use native.Mathlib.Nat.{zero-add, zero-div}
+use Prim.Native.Nat.{ℕ, zero, suc, _+_, _-_, _^_, _<_}
+use native.Mathlib.Nat.{zero-div}
 use native.Mathlib.Omega.{arith}
-use mathlib.Core.Path.{_≡_, refl, sym, ap, subst, _∙_}
+use mathlib.Core.Path.{_≡_, sym, ap, _∙_}
 use mathlib.Core.Logic.{_↔_}
-use mathlib.Core.Bool.{Bool, true, false, _&&_, false≢true, and-false}
+use mathlib.Core.Bool.{Bool, true, false, false≢true}
 use mathlib.Core.List.{List, [], _∷_}
-use lib.Dec.{eqb, lit<}
+use lib.Dec.{lit<}
 use lib.ListN.{length, getD, drop, take}
 use Rattle.region.proofs.Tab.{getD-tab}
-use Rattle.replay.specs.AsyncSpec.{Write, AsyncView, addr-to-chunk, flush-selective, committed, readable, can-crash-as, can-crash}
-use Rattle.replay.specs.Choice.{touched, touches, points, bit, row-of, rows-of}
-use Rattle.cuts.specs.Bits.{no-write, write-at, row-bit-at, touches-chunk, agree-on-touched, chunks}
-use Rattle.cuts.specs.Number.{bits-below, number-of, choice-image, choice-points}
+use Rattle.replay.specs.AsyncSpec.{Write, AsyncView, addr-to-chunk, flush-selective, committed, readable, can-crash}
+use Rattle.replay.specs.Choice.{touched, points, row-of, rows-of}
+use Rattle.cuts.specs.Bits.{write-at, touches-chunk, agree-on-touched, chunks}
+use Rattle.cuts.specs.Number.{number-of, choice-image, choice-points}
 use Rattle.cuts.proofs.Basics.{inside-bounds, getD-tail}
 use Rattle.cuts.proofs.Digits.{bit-of-bits-below, bits-below-high, bits-below-lt, bit-of-ones}
 use Rattle.cuts.proofs.Shape.{shaped-rows-crash}

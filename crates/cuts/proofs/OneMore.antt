@@ -1,11 +1,11 @@
 -- A longer log is replayed over what its older part leaves, by a cut and by a flush: so one write more is laid over the replay before it.
 -- Assumes nothing.
-use Prim.Native.Nat.{ℕ, zero, suc}
+use Prim.Native.Nat.{ℕ}
 use native.Mathlib.Omega.{arith}
 use mathlib.Core.Path.{_≡_, refl, ap}
 use mathlib.Core.Bool.{Bool}
 use mathlib.Core.List.{List, [], _∷_, _++_}
-use lib.ListN.{length, getD}
+use lib.ListN.{length}
 use Rattle.region.specs.Pmemspec.{update-bytes}
 use Rattle.replay.specs.AsyncSpec.{Write, AsyncView, apply-write, apply-write-selective, flush-writes, flush-writes-selective, flush-selective, readable, write}
 use Rattle.cuts.specs.Bits.{new-write}

@@ -1,17 +1,17 @@
 -- With one write more, choice numbers below 2 ^ n leave exactly the pairs of a cut image without the write, under the number's older choices, and a
 -- part-write over it. Assumes nothing.
-use Prim.Native.Nat.{ℕ, suc, _/_, _^_, _<_}
+use Prim.Native.Nat.{ℕ, _/_, _^_, _<_}
 use native.Mathlib.Decide.{decLt}
 use native.Mathlib.Omega.{arith}
-use mathlib.Core.Path.{_≡_, refl, sym, ap, subst, _∙_}
+use mathlib.Core.Path.{_≡_, sym, ap, subst, _∙_}
 use mathlib.Core.Logic.{_↔_}
-use mathlib.Core.Bool.{Bool, true, false, false≢true}
+use mathlib.Core.Bool.{Bool, false, false≢true}
 use mathlib.Core.List.{List, [], _∷_, _++_}
 use lib.ListN.{length, getD, List·getD-append, List·getD-eq-default}
 use Rattle.region.specs.Pmemspec.{can-result-from-partial-write}
-use Rattle.replay.specs.AsyncSpec.{Write, AsyncView, apply-write-selective, flush-selective, write, can-crash-as, can-crash}
+use Rattle.replay.specs.AsyncSpec.{Write, AsyncView, apply-write-selective, flush-selective, write, can-crash}
 use Rattle.replay.specs.Choice.{points, row-of, rows-of}
-use Rattle.cuts.specs.Bits.{no-write, new-write, write-at, row-bit-at, agree-on-touched, chunks}
+use Rattle.cuts.specs.Bits.{no-write, new-write, row-bit-at, agree-on-touched, chunks}
 use Rattle.cuts.specs.Number.{number-of, choice-image, choice-points}
 use Rattle.cuts.proofs.OneMore.{cut-of-a-write}
 use Rattle.cuts.proofs.PartWrites.{row-lays-part-write, part-write-has-row}

@@ -11,11 +11,11 @@ use lib.Seq.{ext-getD}
 use Rattle.region.specs.Tab.{tab}
 use Rattle.region.specs.Pmemspec.{update-bytes, chunk-corresponds, can-result-from-partial-write}
 use Rattle.region.proofs.Tab.{length-tab, getD-tab}
-use Rattle.replay.specs.AsyncSpec.{Write, AsyncView, len, size-to-chunks, apply-write-selective, flush-selective, write, can-crash-as, can-crash}
+use Rattle.replay.specs.AsyncSpec.{Write, AsyncView, size-to-chunks, apply-write-selective, flush-selective, write, can-crash-as, can-crash}
 use Rattle.cuts.specs.Bits.{new-write, covers, chunks}
 use Rattle.cuts.specs.Shape.{has-shape}
 use Rattle.cuts.proofs.Basics.{chunk-below}
-use Rattle.cuts.proofs.Lengths.{length-apply-write, length-apply-write-selective, length-flush-selective}
+use Rattle.cuts.proofs.Lengths.{length-apply-write, length-apply-write-selective}
 use Rattle.cuts.proofs.Column.{byte-of-write, byte-of-selective}
 use Rattle.cuts.proofs.Shape.{shaped-rows-crash, crash-rows-shaped, shape-of-one-more, shape-of-one-less, last-row}
 use Rattle.cuts.proofs.OneMore.{cut-of-a-write}

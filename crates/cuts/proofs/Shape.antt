@@ -1,5 +1,5 @@
 -- Rows of the right shape are what can-crash-as speaks of: each leaves its own replay. Assumes nothing.
-use Prim.Native.Nat.{ℕ, zero, suc, _<_, _≤_}
+use Prim.Native.Nat.{ℕ, suc, _<_}
 use native.Mathlib.Decide.{decLt}
 use native.Mathlib.Omega.{arith}
 use mathlib.Core.Path.{_≡_, refl, sym, ap, _∙_}
@@ -8,7 +8,7 @@ use mathlib.Core.List.{List, [], _∷_, _++_}
 use native.Mathlib.Numerals.{add-one}
 use lib.ListN.{length, getD, take, length-append, List·getD-append}
 use lib.Seq.{getD-at, getD-take, take-suc, take-all, length-take-le}
-use Rattle.replay.specs.AsyncSpec.{Write, AsyncView, flush-selective, can-crash-as, can-crash}
+use Rattle.replay.specs.AsyncSpec.{AsyncView, flush-selective, can-crash-as}
 use Rattle.cuts.specs.Bits.{chunks}
 use Rattle.cuts.specs.Shape.{has-shape}
 use Rattle.cuts.proofs.Lengths.{length-flush-selective}

@@ -5,14 +5,14 @@ use native.Mathlib.Nat.{not-suc-le-zero, le-of-suc-le-suc, zero-lt-suc}
 use native.Mathlib.Omega.{arith}
 use mathlib.Core.Path.{_≡_, refl, sym, ap, ap₂, subst, _∙_}
 use mathlib.Core.Logic.{_↔_}
-use mathlib.Core.Bool.{Bool, true, false, _&&_}
+use mathlib.Core.Bool.{Bool, true}
 use mathlib.Core.List.{List, [], _∷_, _++_, append-assoc}
-use lib.Dec.{eqb, lit<}
+use lib.Dec.{lit<}
 use lib.ListN.{length, getD, length-append}
 use borrow.Author.Tests.{eq-eqb}
 use Rattle.region.proofs.Tab.{length-tab}
-use Rattle.replay.specs.AsyncSpec.{AsyncView, flush-selective, can-crash-as, can-crash}
-use Rattle.replay.specs.Rows.{row-bytes, row-at, rows-at, row-filled, rows-filled, rows-right}
+use Rattle.replay.specs.AsyncSpec.{AsyncView, flush-selective, can-crash}
+use Rattle.replay.specs.Rows.{row-bytes, row-at, rows-at, rows-filled, rows-right}
 use Rattle.cuts.specs.Bits.{chunks}
 use Rattle.cuts.specs.Shape.{has-shape}
 use Rattle.cuts.specs.Packed.{packed-row, packed, are-bytes}

@@ -1,17 +1,16 @@
 -- A write inside the image touches only the image's own chunks, so that a log inside the image has no point that rows of the right shape lack.
 -- Assumes nothing.
 use Prim.Native.Nat.{ℕ, zero, suc, _+_, _-_, _/_, _≤_, _<_}
-use native.Mathlib.Nat.{add-zero}
 use native.Mathlib.Decide.{decLt}
 use native.Mathlib.Omega.{arith}
 use mathlib.Core.Path.{_≡_, sym, _∙_}
-use mathlib.Core.Bool.{Bool, true, false, false≢true}
-use mathlib.Core.List.{List, [], _∷_}
-use lib.ListN.{length, getD, List·getD-eq-default}
-use Rattle.replay.specs.AsyncSpec.{Write, AsyncView, len, valid, within, addr-to-chunk, size-to-chunks}
+use mathlib.Core.Bool.{Bool, true, false≢true}
+use mathlib.Core.List.{List}
+use lib.ListN.{length, List·getD-eq-default}
+use Rattle.replay.specs.AsyncSpec.{AsyncView, len, valid, size-to-chunks}
 use Rattle.replay.specs.Choice.{touched, touches, points}
 use Rattle.replay.specs.Kept.{kept}
-use Rattle.cuts.specs.Bits.{no-write, write-at, row-bit-at, touches-chunk, keeps-all, agree-on-touched, chunks}
+use Rattle.cuts.specs.Bits.{no-write, write-at, touches-chunk, keeps-all, agree-on-touched, chunks}
 use Rattle.cuts.proofs.Basics.{inside-bounds, chunk-mono, chunk-below}
 use Rattle.cuts.proofs.Choices.{nothing-touched}
 use Rattle.cuts.proofs.Kept.{kept-by-touched-bits, kept-of-all-touched}

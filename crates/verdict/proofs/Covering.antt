@@ -1,10 +1,10 @@
 -- The search over a covering admits exactly if every real pair obeys the rule, and denies exactly if some real pair does not. Assumes nothing.
-use Prim.Native.Nat.{ℕ, _<_}
+use Prim.Native.Nat.{ℕ}
 use mathlib.Core.Path.{_≡_, sym, _∙_}
 use mathlib.Core.Logic.{_↔_}
 use mathlib.Core.Bool.{Bool, true, false}
 use mathlib.Core.List.{List}
-use Rattle.verdict.specs.Search.{Verdict, admit, deny, verdict, all-good, least-bad}
+use Rattle.verdict.specs.Search.{admit, deny, verdict}
 use Rattle.verdict.specs.Covering.{Rule, Covering}
 use Rattle.verdict.proofs.Search.{admits-exactly-if-all-good, denies-exactly-the-least-bad, bad-number-denied}
 

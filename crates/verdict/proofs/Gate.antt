@@ -1,17 +1,17 @@
 -- The gate's search over choice numbers is a covering of all that the write could really make, so its verdict means what demand 2 says, for any log,
 -- any write and any number of points. Assumes nothing.
-use Prim.Native.Nat.{ℕ, _-_, _^_, _<_}
-use mathlib.Core.Path.{_≡_, refl, sym, ap, ap₂, _∙_}
+use Prim.Native.Nat.{ℕ, _-_, _<_}
+use mathlib.Core.Path.{_≡_, refl, sym, ap₂}
 use mathlib.Core.Logic.{_↔_}
-use mathlib.Core.Bool.{Bool, true, false}
+use mathlib.Core.Bool.{Bool, true}
 use mathlib.Core.List.{List}
 use Rattle.region.specs.Pmemspec.{can-result-from-partial-write}
-use Rattle.replay.specs.AsyncSpec.{AsyncView, write, readable, can-crash}
-use Rattle.cuts.specs.Number.{choice-image, choice-points}
-use Rattle.cuts.proofs.Numbers.{number-crashes, numbers-cover, last-number-leaves-the-read-image}
+use Rattle.replay.specs.AsyncSpec.{AsyncView, write, can-crash}
+use Rattle.cuts.specs.Number.{choice-image}
+use Rattle.cuts.proofs.Numbers.{number-crashes, last-number-leaves-the-read-image}
 use Rattle.cuts.proofs.PartWrites.{part-writes}
 use Rattle.cuts.proofs.Pairs.{choice-is-part-write, pairs-cover}
-use Rattle.verdict.specs.Search.{Verdict, admit, deny, verdict, least-bad}
+use Rattle.verdict.specs.Search.{Verdict, admit, deny}
 use Rattle.verdict.specs.Covering.{Rule, after-alone, Covering}
 use Rattle.verdict.specs.Gate.{gate-numbers, gate-test, gate-verdict, gate-image, could-make, judges-pairs, judges-images}
 use Rattle.verdict.proofs.Search.{denies-exactly-the-least-bad}

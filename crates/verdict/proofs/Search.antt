@@ -1,11 +1,10 @@
 -- The search admits exactly if every number passes, and denies with m exactly if m is the least that fails. Assumes nothing.
 use Prim.Native.Nat.{ℕ, zero, suc, _+_, _≤_, _<_}
-use native.Mathlib.Nat.{not-suc-le-zero}
-use native.Mathlib.Decide.{decLt, ℕ-discrete}
+use native.Mathlib.Decide.{decLt}
 use native.Mathlib.Omega.{arith}
 use mathlib.Core.Path.{_≡_, refl, sym, ap, _∙_}
-use mathlib.Core.Logic.{_⊎_, inl, inr, _↔_}
-use mathlib.Core.Bool.{Bool, true, false, true≢false, false≢true}
+use mathlib.Core.Logic.{_↔_}
+use mathlib.Core.Bool.{Bool, true, false, true≢false}
 use Rattle.verdict.specs.Search.{Verdict, admit, deny, verdict-from, verdict, all-good, least-bad}
 
 -- what a search that has come to `at` is to find: every number from there on passes, or one is the first to fail

@@ -1,5 +1,5 @@
 -- What the gate tries, and what its verdict is to mean. The limits on a write, and the 16 points of an engine, are no part of it.
-use Prim.Native.Nat.{ℕ, _^_, _<_}
+use Prim.Native.Nat.{ℕ, _^_}
 use mathlib.Core.Path.{_≡_}
 use mathlib.Core.Logic.{_↔_}
 use mathlib.Core.Bool.{Bool, true, false}
