@@ -4,14 +4,14 @@ use native.Mathlib.Nat.{zero-add, add-zero, add-assoc, not-suc-le-zero, le-of-su
 use native.Mathlib.Decide.{decLt}
 use native.Mathlib.Omega.{arith}
 use mathlib.Core.Path.{_≡_, refl, sym, ap, _∙_}
-use mathlib.Core.Bool.{false, _&&_}
+use mathlib.Core.Bool.{Bool, true, false, _&&_, false≢true}
 use mathlib.Core.List.{List, [], _∷_, _++_}
 use lib.ListN.{length, getD, take}
 use lib.Pow.{shr-shr}
 use Rattle.region.proofs.Tab.{length-tab, getD-tab, inside-below, inside-above}
 use Rattle.replay.specs.AsyncSpec.{Write, addr-to-chunk}
 use Rattle.replay.specs.Choice.{touched, points, bit, row-of, rows-of}
-use Rattle.cuts.specs.Bits.{no-write, write-at, row-bit-at, touches-chunk}
+use Rattle.cuts.specs.Bits.{no-write, write-at, row-bit-at, touches-chunk, keeps-all}
 use Rattle.cuts.specs.Shape.{has-shape}
 use Rattle.cuts.proofs.Digits.{bit-of-shift}
 
@@ -23,6 +23,16 @@ nothing-touched C c = go (decLt c (addr-to-chunk C 0))
     go : Dec (c < addr-to-chunk C 0) → touches-chunk C no-write c ≡ false
     go (yes h) = inside-below (addr-to-chunk C 0) 0 c h
     go (no h) = inside-above (addr-to-chunk C 0) 0 c (omega arith)
+
+-- a write that touches a chunk is in the log
+pub touching-write-is-logged : (C : ℕ) (ws : List Write) (j c : ℕ) → touches-chunk C (write-at ws j) c ≡ true → j < length ws
+touching-write-is-logged C [] j c k = absurd (false≢true (sym (nothing-touched C c) ∙ k))
+touching-write-is-logged C (w ∷ ws) zero c k = omega arith
+touching-write-is-logged C (w ∷ ws) (suc j) c k = omega (arith, touching-write-is-logged C ws j c k)
+
+pub all-true-keeps-all : (C K : ℕ) (ws : List Write) (rows : List (List Bool))
+    → ((j c : ℕ) → j < length ws → c < K → row-bit-at rows j c ≡ true) → keeps-all C K ws rows
+all-true-keeps-all C K ws rows t j c h k = t j c (touching-write-is-logged C ws j c k) h
 
 module _ (C K : ℕ) where
   -- bit c of row j: the chunk is touched, and its point is kept. The points before it are those of the writes before and of the chunks below.

@@ -1,36 +1,31 @@
 -- With one write more, choice numbers below 2 ^ n leave exactly the pairs of a cut image without the write, under the number's older choices, and a
 -- part-write over it. Assumes nothing.
 use Prim.Native.Nat.{ℕ, _/_, _^_, _<_}
-use native.Mathlib.Decide.{decLt}
 use native.Mathlib.Omega.{arith}
 use mathlib.Core.Path.{_≡_, sym, ap, subst, _∙_}
 use mathlib.Core.Logic.{_↔_}
-use mathlib.Core.Bool.{Bool, false, false≢true}
+use mathlib.Core.Bool.{Bool, false}
 use mathlib.Core.List.{List, [], _∷_, _++_}
-use lib.ListN.{length, getD, List·getD-append, List·getD-eq-default}
+use lib.ListN.{length, getD, List·getD-append}
 use Rattle.region.specs.Pmemspec.{can-result-from-partial-write}
 use Rattle.replay.specs.AsyncSpec.{Write, AsyncView, apply-write-selective, flush-selective, write, can-crash}
 use Rattle.replay.specs.Choice.{points, row-of, rows-of}
-use Rattle.cuts.specs.Bits.{no-write, new-write, row-bit-at, agree-on-touched, chunks}
+use Rattle.cuts.specs.Bits.{no-write, new-write, agree-on-touched, chunks}
 use Rattle.cuts.specs.Number.{number-of, choice-image, choice-points}
 use Rattle.cuts.proofs.OneMore.{cut-of-a-write}
 use Rattle.cuts.proofs.PartWrites.{row-lays-part-write, part-write-has-row}
 use Rattle.cuts.proofs.Agree.{untouched-bits-change-nothing}
-use Rattle.cuts.proofs.Choices.{nothing-touched, rows-of-shape, rows-of-one-more}
+use Rattle.cuts.proofs.Choices.{touching-write-is-logged, rows-of-shape, rows-of-one-more}
 use Rattle.cuts.proofs.Numbers.{number-of-lt, number-of-agrees, number-leaves-the-image-of-its-rows, number-crashes}
 
 -- rows that agree with the last write in the log agree without it
 older-rows-agree : (C K : ℕ) (ws : List Write) (w : Write) (rows rows′ : List (List Bool)) (row row′ : List Bool)
     → length rows ≡ length ws → length rows′ ≡ length ws
     → agree-on-touched C K (ws ++ (w ∷ [])) (rows ++ (row ∷ [])) (rows′ ++ (row′ ∷ [])) → agree-on-touched C K ws rows rows′
-older-rows-agree C K ws w rows rows′ row row′ l l′ a j c h k = go (decLt j (length ws))
-  where
-    go : Dec (j < length ws) → row-bit-at rows j c ≡ row-bit-at rows′ j c
-    go (yes b) =
-        ap (λ r. getD r c false) (sym (List·getD-append rows (row ∷ []) [] j (omega arith)))
-        ∙ a j c h (rw (List·getD-append ws (w ∷ []) no-write j b) k)
-        ∙ ap (λ r. getD r c false) (List·getD-append rows′ (row′ ∷ []) [] j (omega arith))
-    go (no b) = absurd (false≢true (sym (nothing-touched C c) ∙ (rw (List·getD-eq-default ws no-write {n = j} (omega arith)) at k)))
+older-rows-agree C K ws w rows rows′ row row′ l l′ a j c h k =
+    let b : j < length ws = touching-write-is-logged C ws j c k in
+    ap (λ r. getD r c false) (sym (List·getD-append rows (row ∷ []) [] j (omega arith)))
+    ∙ a j c h (rw (List·getD-append ws (w ∷ []) no-write j b) k) ∙ ap (λ r. getD r c false) (List·getD-append rows′ (row′ ∷ []) [] j (omega arith))
 
 module _ (C : ℕ) (C⁺ : 0 < C) (v : AsyncView) (addr : ℕ) (bytes : List ℕ) where
   -- the number's image with the write is the write's part, by the number's highest points, over its image without

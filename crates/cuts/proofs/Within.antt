@@ -1,18 +1,16 @@
 -- A write inside the image touches only the image's own chunks, so that a log inside the image has no point that rows of the right shape lack.
 -- Assumes nothing.
 use Prim.Native.Nat.{ℕ, zero, suc, _+_, _-_, _/_, _≤_, _<_}
-use native.Mathlib.Decide.{decLt}
 use native.Mathlib.Omega.{arith}
-use mathlib.Core.Path.{_≡_, sym, _∙_}
-use mathlib.Core.Bool.{Bool, true, false≢true}
+use mathlib.Core.Path.{_≡_}
+use mathlib.Core.Bool.{Bool, true}
 use mathlib.Core.List.{List}
-use lib.ListN.{length, List·getD-eq-default}
 use Rattle.replay.specs.AsyncSpec.{AsyncView, len, valid, size-to-chunks}
 use Rattle.replay.specs.Choice.{touched, touches, points}
 use Rattle.replay.specs.Kept.{kept}
-use Rattle.cuts.specs.Bits.{no-write, write-at, touches-chunk, keeps-all, agree-on-touched, chunks}
+use Rattle.cuts.specs.Bits.{write-at, touches-chunk, keeps-all, agree-on-touched, chunks}
 use Rattle.cuts.proofs.Basics.{inside-bounds, chunk-mono, chunk-below}
-use Rattle.cuts.proofs.Choices.{nothing-touched}
+use Rattle.cuts.proofs.Choices.{touching-write-is-logged}
 use Rattle.cuts.proofs.Kept.{kept-by-touched-bits, kept-of-all-touched}
 
 module _ (C : ℕ) (C⁺ : 0 < C) where
@@ -27,12 +25,7 @@ module _ (C : ℕ) (C⁺ : 0 < C) where
 
   module _ (v : AsyncView) (inside : valid v) where
     pub touched-chunk-below : (j c : ℕ) → touches-chunk C (write-at (v .outstanding-writes) j) c ≡ true → c < chunks C v
-    touched-chunk-below j c k = go (decLt j (length (v .outstanding-writes)))
-      where
-        go : Dec (j < length (v .outstanding-writes)) → c < chunks C v
-        go (yes h) = touched-below _ _ (len v) c (inside j h) k
-        go (no h) =
-            absurd (false≢true (sym (nothing-touched C c) ∙ (rw (List·getD-eq-default (v .outstanding-writes) no-write {n = j} (omega arith)) at k)))
+    touched-chunk-below j c k = touched-below _ _ (len v) c (inside j (touching-write-is-logged C (v .outstanding-writes) j c k)) k
 
     -- rows that keep every point keep as many as there are points
     pub kept-of-everything : (rows : List (List Bool)) → keeps-all C (chunks C v) (v .outstanding-writes) rows
