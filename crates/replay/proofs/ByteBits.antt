@@ -23,6 +23,13 @@ set-bits-add b from (suc m) n =
     ∙ sym (add-assoc (cond (b from) 1 0) (set-bits b (suc from) m) (set-bits b (suc from + m) n))
     ∙ ap (λ (x : ℕ). cond (b from) 1 0 + set-bits b (suc from) m + set-bits b x n) (suc-add from m ∙ sym (add-suc from m))
 
+-- only the bits of the run count
+pub set-bits-agree : (b b′ : ℕ → Bool) (from n : ℕ) → ((c : ℕ) → from ≤ c → c < from + n → b c ≡ b′ c) → set-bits b from n ≡ set-bits b′ from n
+unfolding set-bits
+set-bits-agree b b′ from zero e = refl
+set-bits-agree b b′ from (suc n) e =
+    ap₂ (λ (t : Bool) (m : ℕ). cond t 1 0 + m) (e from (omega arith) (omega arith)) (set-bits-agree b b′ (suc from) n (λ c l h. e c (omega arith) (omega arith)))
+
 -- no more bits are set than there are
 pub set-bits-le : (b : ℕ → Bool) (from n : ℕ) → set-bits b from n ≤ n
 unfolding set-bits

@@ -5,3 +5,4 @@ pub mod Soundness
 pub mod Walk
 pub mod WriteLaws
 pub mod FlushLaws
+pub mod KeptLaws

@@ -1,0 +1,38 @@
+-- A longer log is replayed over what its older part leaves, by a cut and by a flush: so one write more is laid over the replay before it.
+-- Assumes nothing.
+use Prim.Native.Nat.{ℕ}
+use native.Mathlib.Omega.{arith}
+use mathlib.Core.Path.{_≡_, refl, ap}
+use mathlib.Core.Bool.{Bool}
+use mathlib.Core.List.{List, [], _∷_, _++_}
+use lib.ListN.{length}
+use Rattle.region.specs.Pmemspec.{update-bytes}
+use Rattle.replay.specs.AsyncSpec.{Write, AsyncView, apply-write, apply-write-selective, flush-writes, flush-writes-selective, flush-selective, readable, write}
+use Rattle.cuts.specs.Bits.{new-write}
+
+-- a replay of two logs, one after the other, with the rows of each
+pub replay-in-two : (C : ℕ) (s : List ℕ) (ws ws′ : List Write) (rows rows′ : List (List Bool)) → length rows ≡ length ws
+    → flush-writes-selective C s (ws ++ ws′) (rows ++ rows′) ≡ flush-writes-selective C (flush-writes-selective C s ws rows) ws′ rows′
+unfolding flush-writes-selective
+replay-in-two C s [] ws′ [] rows′ l = refl
+replay-in-two C s [] ws′ (r ∷ rows) rows′ l = absurd (omega arith)
+replay-in-two C s (w ∷ ws) ws′ [] rows′ l = absurd (omega arith)
+replay-in-two C s (w ∷ ws) ws′ (r ∷ rows) rows′ l = replay-in-two C (apply-write-selective C s w r) ws ws′ rows rows′ (omega arith)
+
+pub read-in-two : (s : List ℕ) (ws ws′ : List Write) → flush-writes s (ws ++ ws′) ≡ flush-writes ((flush-writes s ws) .state-at-last-flush) ws′
+unfolding flush-writes
+read-in-two s [] ws′ = refl
+read-in-two s (w ∷ ws) ws′ = read-in-two (apply-write s w) ws ws′
+
+pub cut-of-a-write : (C : ℕ) (v : AsyncView) (addr : ℕ) (bytes : List ℕ) (rows : List (List Bool)) (row : List Bool)
+    → length rows ≡ length (v .outstanding-writes)
+    → flush-selective C (write v addr bytes) (rows ++ (row ∷ []))
+    ≡ apply-write-selective C (flush-selective C v rows) (new-write addr bytes) row
+unfolding flush-writes-selective
+cut-of-a-write C v addr bytes rows row l =
+    replay-in-two C (v .state-at-last-flush) (v .outstanding-writes) (new-write addr bytes ∷ []) rows (row ∷ []) l
+
+pub read-of-a-write : (v : AsyncView) (addr : ℕ) (bytes : List ℕ) → readable (write v addr bytes) ≡ update-bytes (readable v) addr bytes
+unfolding flush-writes
+read-of-a-write v addr bytes =
+    ap (λ x. x .state-at-last-flush) (read-in-two (v .state-at-last-flush) (v .outstanding-writes) (new-write addr bytes ∷ []))
