@@ -23,7 +23,7 @@ module _ (image : List ℕ) (st : State) (log : List ℕ) where
   flush-unsound e = cond-unless (sound (length image) st (length log)) 0 1 e
 
   pub flushes-done : sound (length image) st (length log) ≡ true → {st′ : State} {image′ : List ℕ} → st′ ≡ emptied st → image′ ≡ readable (view image st log)
-    → Flushes image st log Done st′ image′
+      → Flushes image st log Done st′ image′
   flushes-done e s i =
       let none = flush-sound e in
       record { answers = sym none; state-after = s ∙ done-changed (emptied st) st none; image-after = i ∙ done-changed (readable (view image st log)) image none }

@@ -44,9 +44,9 @@ module _ (L : ℕ) (r : Record) (rs : List Record) (table : List ℕ) (row left 
   K = size-to-chunks const-persistence-chunk-size L
 
   pub kept-more : 0 < left → r .addr + r .len ≤ L
-    → kept-records const-persistence-chunk-size (r ∷ rs) (rows-at K left table row)
-    ≡ set-bits (row-bit table row) (r .addr / const-persistence-chunk-size) (touched const-persistence-chunk-size (r .addr) (r .len))
-    + kept-records const-persistence-chunk-size rs (rows-at K (left - 1) table (row + row-bytes K))
+      → kept-records const-persistence-chunk-size (r ∷ rs) (rows-at K left table row)
+      ≡ set-bits (row-bit table row) (r .addr / const-persistence-chunk-size) (touched const-persistence-chunk-size (r .addr) (r .len))
+      + kept-records const-persistence-chunk-size rs (rows-at K (left - 1) table (row + row-bytes K))
   unfolding kept-records
   kept-more some lies =
       ap (kept-records const-persistence-chunk-size (r ∷ rs)) (rows-at-more K left table row some)

@@ -6,3 +6,4 @@ pub mod Walk
 pub mod WriteLaws
 pub mod FlushLaws
 pub mod KeptLaws
+pub mod CutLaws

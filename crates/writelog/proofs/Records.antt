@@ -35,7 +35,7 @@ rest st i = drop (i + 1) (log-records st)
 
 -- what each definition over the records takes from the next one
 module _ (st : State) (i : ℕ) (h : i < st .count) (l : st .count ≤ length (st .records)) where
-  next-and-rest : drop i (log-records st) ≡ next st i ∷ rest st i
+  pub next-and-rest : drop i (log-records st) ≡ next st i ∷ rest st i
   next-and-rest = rw add-one (records-more st i h l)
 
   pub together-more : together (drop i (log-records st)) ≡ next st i .len + together (rest st i)

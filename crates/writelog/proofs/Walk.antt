@@ -65,12 +65,12 @@ module _ (L : ℕ) (st : State) (n : ℕ) where
   pub all-remain : length (st .records) ≡ writes-limit → Sound L st n → Remaining L st n 0 (st .count)
   all-remain sized s =
       let from-first : st .count - st .count ≡ 0 = sub-self (st .count) in
-      record
-      { sized = sized
-      ; few = s .few
-      ; some = le-refl (st .count)
-      ; inside = ap (λ (k : ℕ). records-inside L (drop k (log-records st))) from-first ∙ s .inside
-      ; room = omega (arith, ap (λ (k : ℕ). together (drop k (log-records st))) from-first, s .room, s .buffer)
+      record {
+        sized = sized;
+        few = s .few;
+        some = le-refl (st .count);
+        inside = ap (λ (k : ℕ). records-inside L (drop k (log-records st))) from-first ∙ s .inside;
+        room = omega (arith, ap (λ (k : ℕ). together (drop k (log-records st))) from-first, s .room, s .buffer);
       }
 
   pub all-writes : (log : List ℕ) → last-writes st (st .count) log 0 ≡ writes-of (log-records st) log

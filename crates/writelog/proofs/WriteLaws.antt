@@ -73,20 +73,20 @@ module _ (image : List ℕ) (st : State) (log : List ℕ) (addr n : ℕ) where
 -- the promise of a done write, and of a refused one
 module _ (image : List ℕ) (st : State) (log : List ℕ) (addr : ℕ) (bytes : List ℕ) {answer : Answer} (number : answer-number answer ≡ write-number image st log addr (length bytes)) where
   pub writes-done : {st′ : State} {log′ : List ℕ} → answer ≡ Done → st′ ≡ appended st addr (length bytes) → log′ ≡ update-bytes log (together (log-records st)) bytes
-    → Writes image st log addr bytes answer st′ log′
+      → Writes image st log addr bytes answer st′ log′
   writes-done e s l =
       let none : write-number image st log addr (length bytes) ≡ 0 = sym number ∙ ap answer-number e in
-      record
-      { answers = number
-      ; state-after = s ∙ done-changed (appended st addr (length bytes)) st none
-      ; log-after = l ∙ done-changed (update-bytes log (together (log-records st)) bytes) log none
+      record {
+        answers = number;
+        state-after = s ∙ done-changed (appended st addr (length bytes)) st none;
+        log-after = l ∙ done-changed (update-bytes log (together (log-records st)) bytes) log none;
       }
 
   pub writes-refused : (why : Refusal) → answer ≡ Refused why → Writes image st log addr bytes answer st log
   writes-refused why e =
       let some : write-number image st log addr (length bytes) ≡ refusal-number why = sym number ∙ ap answer-number e in
-      record
-      { answers = number
-      ; state-after = refused-left why (appended st addr (length bytes)) st some
-      ; log-after = refused-left why (update-bytes log (together (log-records st)) bytes) log some
+      record {
+        answers = number;
+        state-after = refused-left why (appended st addr (length bytes)) st some;
+        log-after = refused-left why (update-bytes log (together (log-records st)) bytes) log some;
       }

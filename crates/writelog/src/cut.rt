@@ -2,11 +2,11 @@
 use crate::flush::emptied;
 use crate::log::kept;
 use crate::log::replay_selected;
-use crate::state::checked;
 use crate::state::Outstanding;
 use crate::state::State;
-use region::chunks::size_to_chunks;
+use crate::state::checked;
 use region::Refusal;
+use region::chunks::size_to_chunks;
 use replay::rows::row_bytes;
 use replay::rows::rows_filled;
 ghost use mathlib.Core.Path.{_≡_};

@@ -1,8 +1,8 @@
 // The flush.
 use crate::log::replay_whole;
-use crate::state::checked;
 use crate::state::Outstanding;
 use crate::state::State;
+use crate::state::checked;
 use region::Answer;
 use region::Refusal;
 ghost use mathlib.Core.Path.{_≡_};

@@ -1,8 +1,8 @@
 // The plain write.
-use crate::state::checked;
 use crate::state::Outstanding;
 use crate::state::Record;
 use crate::state::State;
+use crate::state::checked;
 use crate::state::within;
 use region::Answer;
 use region::LOG_LIMIT;

@@ -1,0 +1,49 @@
+-- The promise of a done cut, and of a refused one. Assumes nothing.
+use Prim.Native.Nat.{ℕ}
+use mathlib.Core.Path.{_≡_, refl, sym, ap, _∙_}
+use mathlib.Core.Bool.{Bool, true, false}
+use mathlib.Core.List.{List, [], _∷_}
+use lib.ListN.{length}
+use Rattle.region.specs.Answer.{Report, unless, refusal-number, if-done}
+use Rattle.region.specs.declared.Refusal.{Refusal}
+use Rattle.region.proofs.AnswerLaws.{done-changed, refused-left}
+use Rattle.region.proofs.Booleans.{cond-when, cond-unless}
+use Rattle.replay.specs.Rows.{rows-right}
+use Rattle.writelog.specs.State.{sound, emptied}
+use Rattle.writelog.specs.Cut.{cut-report, chunks, cut-number, cut-image, cut-kept, Cuts}
+use Rattle.writelog.specs.declared.state.State.{State}
+use Rattle.writelog.specs.declared.cut.CutAnswer.the-variants.{Kept, Refused}
+
+module _ (image : List ℕ) (st : State) (log table : List ℕ) where
+  abbrev after-1 : ℕ
+  after-1 = unless (rows-right (chunks image) (st .count) table) 9 0
+
+  pub cut-unsound : sound (length image) st (length log) ≡ false → cut-number image st log table ≡ 1
+  unfolding cut-number
+  cut-unsound e = cond-unless (sound (length image) st (length log)) after-1 1 e
+
+  pub cut-bad-rows : sound (length image) st (length log) ≡ true → rows-right (chunks image) (st .count) table ≡ false → cut-number image st log table ≡ 9
+  unfolding cut-number
+  cut-bad-rows e f = cond-when (sound (length image) st (length log)) after-1 1 e ∙ cond-unless (rows-right (chunks image) (st .count) table) 0 9 f
+
+  pub cut-good : sound (length image) st (length log) ≡ true → rows-right (chunks image) (st .count) table ≡ true → cut-number image st log table ≡ 0
+  unfolding cut-number
+  cut-good e f = cond-when (sound (length image) st (length log)) after-1 1 e ∙ cond-when (rows-right (chunks image) (st .count) table) 0 9 f
+
+  pub cuts-done : cut-number image st log table ≡ 0 → {k : ℕ} {st′ : State} {image′ : List ℕ} → k ≡ cut-kept image st log table → st′ ≡ emptied st → image′ ≡ cut-image image st log table
+      → Cuts image st log table (Kept k) st′ image′
+  cuts-done none {k} kept s i =
+      record {
+        answers = ap (λ (n : ℕ). record { number = 0; values = n ∷ [] }) kept ∙ ap (λ (n : ℕ). record { number = n; values = if-done n (cut-kept image st log table ∷ []) [] }) (sym none);
+        state-after = s ∙ done-changed (emptied st) st none;
+        image-after = i ∙ done-changed (cut-image image st log table) image none;
+      }
+
+  pub cuts-refused : (why : Refusal) → cut-number image st log table ≡ refusal-number why → Cuts image st log table (Refused why) st image
+  cuts-refused why e =
+      record {
+        answers = ap (λ (vs : List ℕ). record { number = refusal-number why; values = vs }) (refused-left {n = refusal-number why} why (cut-kept image st log table ∷ []) [] refl)
+            ∙ ap (λ (n : ℕ). record { number = n; values = if-done n (cut-kept image st log table ∷ []) [] }) (sym e);
+        state-after = refused-left why (emptied st) st e;
+        image-after = refused-left why (cut-image image st log table) image e;
+      }
