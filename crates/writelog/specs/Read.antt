@@ -1,10 +1,12 @@
--- The read and its companion question. Document 01: it meets 1 and 2.
+-- The read and its companion question. Document 01: "A read fills a lent working image of L bytes with the read image and hands back the asked part
+-- of the working image"; it meets 1 and 2.
 use Prim.Native.Nat.{ℕ, _+_}
 use mathlib.Core.Path.{_≡_}
 use mathlib.Core.Bool.{_&&_}
 use mathlib.Core.List.{List}
 use lib.Dec.{leb, eqb}
 use lib.ListN.{length}
+use denote.Ref.{RefT, ptr, now}
 use Rattle.region.specs.Pmemspec.{extract-bytes}
 use Rattle.region.specs.Answer.{answer-number, unless, if-done}
 use Rattle.region.specs.declared.Answer.{Answer}
@@ -12,16 +14,28 @@ use Rattle.replay.specs.AsyncSpec.{readable}
 use Rattle.writelog.specs.State.{view, sound}
 use Rattle.writelog.specs.declared.state.State.{State}
 
-unfoldable pub read-number : List ℕ → State → List ℕ → List ℕ → ℕ → ℕ → ℕ
-read-number image st log work addr len =
-    unless (sound (length image) st (length log) && eqb (length work) (length image)) 1
-    (unless (leb (addr + len) (length image)) 2
+-- the number goes by the lengths of image, log buffer and working image
+unfoldable pub asked-number : ℕ → State → ℕ → ℕ → ℕ → ℕ → ℕ
+asked-number L st log-length work-length addr len =
+    unless (sound L st log-length && eqb work-length L) 1
+    (unless (leb (addr + len) L) 2
     0)
 
+abbrev pub read-number : List ℕ → State → List ℕ → List ℕ → ℕ → ℕ → ℕ
+read-number image st log work addr len = asked-number (length image) st (length log) (length work) addr len
+
 -- the working image afterwards: the read image
-unfoldable pub read-work : List ℕ → State → List ℕ → List ℕ → ℕ → ℕ → List ℕ
+abbrev pub read-work : List ℕ → State → List ℕ → List ℕ → ℕ → ℕ → List ℕ
 read-work image st log work addr len = if-done (read-number image st log work addr len) (readable (view image st log)) work
 
--- how much of the working image is handed back: nothing on a refusal
-abbrev pub read-length : List ℕ → State → List ℕ → List ℕ → ℕ → ℕ → ℕ
-read-length image st log work addr len = if-done (read-number image st log work addr len) len 0
+-- what the fill promises: its number, and every byte of the working image afterwards
+pub record Fills (image : List ℕ) (st : State) (log work : List ℕ) (addr len : ℕ) (answer : Answer) (work′ : List ℕ) : Type 0 where
+  pub answers : answer-number answer ≡ read-number image st log work addr len
+  pub work-after : work′ ≡ read-work image st log work addr len
+
+-- What the read promises of the part that it hands back: it is the caller's own memory, the same block and that far into it, and holds the asked
+-- bytes of the read image. "On any refusal the part is empty"; it then stands at the working image's first byte.
+pub record HandsBack (image : List ℕ) (st : State) (log : List ℕ) (work : RefT (List ℕ)) (addr len : ℕ) (part : RefT (List ℕ)) : Type 0 where
+  pub block : ptr part .0 ≡ ptr work .0
+  pub offset : ptr part .1 ≡ ptr work .1 + if-done (read-number image st log (now work) addr len) addr 0
+  pub bytes : now part ≡ extract-bytes (readable (view image st log)) addr (if-done (read-number image st log (now work) addr len) len 0)

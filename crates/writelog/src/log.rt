@@ -50,8 +50,8 @@ pub fn replay_selected(
     if left == 0 {
         return;
     }
-    let i = state.count - left;
-    let r = state.records[i];
+    let next = state.count - left;
+    let r = state.records[next];
     let end = at + r.len;
     lay_selected(work, r.addr, &log[at..end], rows, row);
     replay_selected(state, log, rows, width, work, end, row + width, left - 1);

@@ -56,8 +56,8 @@ replay-selected-returns t c = let a = c .before .before .before .before .args in
     ap (λ (ws : List Write). flush-writes-selective const-persistence-chunk-size (a .work .now) ws (rows-at (size-to-chunks const-persistence-chunk-size (length (a .work .now))) (a .left) (a .rows .now) (a .row))) (sym (no-more _ (a .t1) _ (a .at) (a .left) (c .before .before .before .before .pre .1 .0) (c .if1 .taken) (a .log .now)))
 
 -- src/log.rt:52:13
-replay-selected-sub-i : (t : ℕ) → replay-selected-lts.Need-sub-i (claims t) (replay-selected-at t) replay-selected.Post
-replay-selected-sub-i t c = omega arith
+replay-selected-sub-next : (t : ℕ) → replay-selected-lts.Need-sub-next (claims t) (replay-selected-at t) replay-selected.Post
+replay-selected-sub-next t c = omega arith
 
 -- src/log.rt:53:13
 replay-selected-mul-r : (t : ℕ) → replay-selected-lts.Need-mul-r (claims t) (replay-selected-at t) replay-selected.Post
@@ -136,7 +136,7 @@ pub +replay-selected-spec : {M : Type 1} → statement M
     (replay-selected-at t)
     replay-selected.Post
     (replay-selected-returns t)
-    (replay-selected-sub-i t)
+    (replay-selected-sub-next t)
     (replay-selected-mul-r t)
     (replay-selected-element-copy-out-r t)
     (replay-selected-add-end t)
