@@ -1,0 +1,137 @@
+-- The levels of a reader are document 01's depth, exactly: what a reader of d levels reads is at most d deep, and whatever a reader of more
+-- levels reads that is at most d deep, a reader of d levels reads too. Assumes nothing.
+use mathlib.Core.Path.{_≡_, refl, _∙_, subst}
+use mathlib.Core.Bool.{Bool, true, false}
+use mathlib.Core.List.{List}
+use mathlib.Core.Option.{some}
+use Prim.Native.Nat.{ℕ, zero, suc, _≤_}
+use native.Mathlib.Omega.{arith}
+use lib.ListN.{length}
+use lib.Dec.{leb, eqb}
+use Rattle.sheet.specs.Sheet.{Rule, clause, group, Rules, cons, depth, deepest, Found, malformed, got, on-got, only-if, Reader, Entry, one, many}
+use Rattle.sheet.specs.Sheet.{max-depth, max-bytes, edition-bits, read-field, read-entry, read-members, read-rest, read-rule, the-edition, filling}
+use Rattle.sheet.specs.Sheet.{read-edition, read-filling, read-whole, read-sheet, rule-of}
+
+-- what is got, if anything is, has P
+abbrev Gets : {A : Type 0} → (A → Type 0) → Found A → Type 0
+Gets P malformed = Unit
+Gets P (got a next) = P a
+
+then-gets : {A B : Type 0} (P : A → Type 0) (Q : B → Type 0) (f : Found A) (g : A → ℕ → Found B)
+    → Gets P f → ((a : A) (next : ℕ) → P a → Gets Q (g a next)) → Gets Q (on-got f g)
+then-gets P Q malformed g p q = tt
+then-gets P Q (got a next) g p q = q a next p
+
+anything : {A : Type 0} (f : Found A) → Gets (λ a. Unit) f
+anything malformed = tt
+anything (got a next) = tt
+
+only-if-gets : {A : Type 0} (P : A → Type 0) (b : Bool) (f : Found A) → Gets P f → Gets P (only-if b f)
+only-if-gets P true f p = p
+only-if-gets P false f p = tt
+
+module _ (s : List ℕ) where
+  shallow-members : (d : ℕ) (member : Reader Rule) → ((at : ℕ) → Gets (λ r. depth r ≤ d) (member s at))
+      → (n at : ℕ) → Gets (λ ms. deepest ms ≤ d) (read-members n member s at)
+  unfolding read-members depth
+  shallow-members d member shallow zero at = omega arith
+  shallow-members d member shallow (suc n) at =
+      then-gets (λ r. depth r ≤ d) (λ ms. deepest ms ≤ d) (member s at) _ (shallow at) λ r next p.
+      then-gets (λ ms. deepest ms ≤ d) (λ ms. deepest ms ≤ d) (read-members n member s next) _ (shallow-members d member shallow n next) λ ms end q.
+      omega arith
+
+  shallow-rest : (d : ℕ) (member : Reader Rule) → ((at : ℕ) → Gets (λ r. depth r ≤ d) (member s at))
+      → (e : Entry) (at : ℕ) → Gets (λ r. depth r ≤ suc d) (read-rest member e s at)
+  unfolding read-rest depth
+  shallow-rest d member shallow (one c) at = omega arith
+  shallow-rest d member shallow (many k n) at =
+      then-gets (λ ms. deepest ms ≤ d) (λ r. depth r ≤ suc d) (read-members n member s at) _ (shallow-members d member shallow n at) λ ms end p.
+      omega arith
+
+  shallow : (d at : ℕ) → Gets (λ r. depth r ≤ d) (read-rule d s at)
+  unfolding read-rule
+  shallow zero at = tt
+  shallow (suc d) at =
+      then-gets (λ e. Unit) (λ r. depth r ≤ suc d) (read-entry s at) _ (anything (read-entry s at)) λ e next p.
+      shallow-rest d (read-rule d) (shallow d) e next
+
+got-gets : (P : Rule → Type 0) (f : Found Rule) {r : Rule} {next : ℕ} → Gets P f → f ≡ got r next → P r
+got-gets P malformed p e = absurd (let z : _≡_ {A = ℕ} 0 1 = cc in omega arith)
+got-gets P (got q last) {r} p e = let same-rule : q ≡ r = cc in subst P same-rule p
+
+pub read-is-shallow : (s : List ℕ) (d at : ℕ) {r : Rule} {next : ℕ} → read-rule d s at ≡ got r next → depth r ≤ d
+read-is-shallow s d at e = got-gets (λ r. depth r ≤ d) (read-rule d s at) (shallow s d at) e
+
+some-gets : (P : Rule → Type 0) (f : Found Rule) {r : Rule} → Gets P f → rule-of f ≡ some r → P r
+some-gets P malformed p e = absurd (let z : _≡_ {A = ℕ} 0 1 = cc in omega arith)
+some-gets P (got q next) {r} p e = let same-rule : q ≡ r = cc in subst P same-rule p
+
+shallow-whole : (s : List ℕ) (at : ℕ) → Gets (λ r. depth r ≤ max-depth) (read-whole s at)
+unfolding read-whole read-edition read-filling
+shallow-whole s at =
+    then-gets (λ e. Unit) (λ r. depth r ≤ max-depth) (read-field edition-bits s at) _ (anything (read-field edition-bits s at)) λ e start p.
+    then-gets (λ r. depth r ≤ max-depth) (λ r. depth r ≤ max-depth) (read-edition e s start) _
+    (only-if-gets (λ r. depth r ≤ max-depth) (eqb e the-edition) (read-rule max-depth s start) (shallow s max-depth start)) λ r end q.
+    only-if-gets (λ r. depth r ≤ max-depth) (filling s end) (got r end) q
+
+pub read-at-most : (s : List ℕ) {r : Rule} → read-sheet s ≡ some r → depth r ≤ max-depth
+unfolding read-sheet
+read-at-most s =
+    some-gets (λ r. depth r ≤ max-depth) (only-if (leb (length s) max-bytes) (read-whole s 0))
+    (only-if-gets (λ r. depth r ≤ max-depth) (leb (length s) max-bytes) (read-whole s 0) (shallow-whole s 0))
+
+-- The other way round: g has what f has, if that is at most d by a measure.
+abbrev Keeps : {A : Type 0} → (A → ℕ) → ℕ → Found A → Found A → Type 0
+Keeps m d malformed g = Unit
+Keeps m d (got a next) g = m a ≤ d → g ≡ got a next
+
+module _ (s : List ℕ) where
+  keeps-members : (d : ℕ) (member fewer : Reader Rule) → ((at : ℕ) → Keeps depth d (member s at) (fewer s at))
+      → (n at : ℕ) → Keeps deepest d (read-members n member s at) (read-members n fewer s at)
+  unfolding read-members depth
+  keeps-members d member fewer keeps zero at = λ h. refl
+  keeps-members d member fewer keeps (suc n) at = first (member s at) (keeps at) (keeps-members d member fewer keeps n)
+    where
+      others : (r : Rule) (next : ℕ) (f : Found Rules) → (depth r ≤ d → fewer s at ≡ got r next) → Keeps deepest d f (read-members n fewer s next)
+          → Keeps deepest d (on-got f (λ ms end. got (cons r ms) end)) (read-members (suc n) fewer s at)
+      others r next malformed p q = tt
+      others r next (got ms end) p q = λ h. rw (p (omega arith), q (omega arith))
+
+      first : (f : Found Rule) → Keeps depth d f (fewer s at) → ((next : ℕ) → Keeps deepest d (read-members n member s next) (read-members n fewer s next))
+          → Keeps deepest d (on-got f (λ r next. on-got (read-members n member s next) (λ ms end. got (cons r ms) end))) (read-members (suc n) fewer s at)
+      first malformed p q = tt
+      first (got r next) p q = others r next (read-members n member s next) p (q next)
+
+  -- a rule whose entry is read, with its members
+  keeps-rest : (d : ℕ) (member fewer : Reader Rule) → ((at : ℕ) → Keeps depth d (member s at) (fewer s at))
+      → (f : Found Entry) → Keeps depth (suc d) (on-got f (λ e next. read-rest member e s next)) (on-got f (λ e next. read-rest fewer e s next))
+  unfolding read-rest depth
+  keeps-rest d member fewer keeps malformed = tt
+  keeps-rest d member fewer keeps (got (one c) next) = λ h. refl
+  keeps-rest d member fewer keeps (got (many k n) next) = grouped (read-members n member s next) (keeps-members d member fewer keeps n next)
+    where
+      grouped : (f : Found Rules) → Keeps deepest d f (read-members n fewer s next)
+          → Keeps depth (suc d) (on-got f (λ ms end. got (group k ms) end)) (on-got (read-members n fewer s next) (λ ms end. got (group k ms) end))
+      grouped malformed p = tt
+      grouped (got ms end) p = λ h. rw (p (omega arith))
+
+  deep-enough : (more d at : ℕ) → Keeps depth d (read-rule more s at) (read-rule d s at)
+  unfolding read-rule depth
+  deep-enough zero d at = tt
+  deep-enough (suc more) zero at = none-so-shallow (read-rule (suc more) s at)
+    where
+      none-so-shallow : (f : Found Rule) → Keeps depth 0 f malformed
+      none-so-shallow malformed = tt
+      none-so-shallow (got (clause c) next) = λ h. absurd (omega arith)
+      none-so-shallow (got (group k ms) next) = λ h. absurd (omega arith)
+  deep-enough (suc more) (suc d) at = keeps-rest d (read-rule more) (read-rule d) (deep-enough more d) (read-entry s at)
+
+  read-keeps : (d : ℕ) (f g : Found Rule) {r : Rule} {next : ℕ} → Keeps depth d f g → f ≡ got r next → depth r ≤ d → g ≡ got r next
+  read-keeps d malformed g keeps e h = cc
+  read-keeps d (got q last) g {r} {next} keeps e h =
+      let same-rule : q ≡ r = cc in
+      let low : depth q ≤ d = rw same-rule h in
+      keeps low ∙ e
+
+  pub deep-enough-reads : (more d at : ℕ) {r : Rule} {next : ℕ} → read-rule more s at ≡ got r next → depth r ≤ d → read-rule d s at ≡ got r next
+  deep-enough-reads more d at e h = read-keeps d (read-rule more s at) (read-rule d s at) (deep-enough more d at) e h

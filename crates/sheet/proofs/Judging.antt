@@ -1,0 +1,144 @@
+-- What a rule and a group come to once their parts are judged: the laws that the cycle of `judge_rule` and `judge_members` rests on.
+-- Assumes nothing.
+use mathlib.Core.Path.{_≡_, refl, sym, ap, _∙_}
+use mathlib.Core.Bool.{Bool, true, false, not, Bool·beq}
+use mathlib.Core.List.{List}
+use Prim.Native.Nat.{ℕ, suc, _-_, _<_}
+use native.Mathlib.Omega.{arith}
+use Rattle.sheet.specs.Sheet.{Found, malformed, got, on-got, Reader, Kind, all, any, Entry, one, many, Rule, Rules, group, cons}
+use Rattle.sheet.specs.Sheet.{empty-holds, join, holds, members-hold, read-entry, read-members, read-rest, read-rule}
+use Rattle.sheet.specs.Inner.{kind-of, is-all, head-told, step-told, group-told}
+use Rattle.sheet.specs.declared.rules.Head.{Head}
+use Rattle.sheet.specs.declared.rules.Head.the-variants.{Bad, Clause as Judged-clause, Group}
+use Rattle.sheet.specs.declared.rules.Step.{Step}
+use Rattle.sheet.specs.declared.rules.Step.the-variants.{Broken, Good}
+
+one-more : {n : ℕ} → (n ≡ 0 → ⊥) → suc (n - 1) ≡ n
+one-more h = omega arith
+
+-- A rule, by its head.
+
+module _ (image s : List ℕ) where
+  pub no-levels : (at : ℕ) {levels : ℕ} → levels ≡ 0 → Broken ≡ step-told image (read-rule levels s at)
+  unfolding read-rule
+  no-levels at e = rw e
+
+  -- what judging a rule answers, once its head is judged
+  abbrev pub by-head : Head → ℕ → Step
+  by-head Bad d = Broken
+  by-head (Judged-clause next h) d = Good next h
+  by-head (Group next b n) d = group-told (kind-of b) image (read-members n (read-rule d) s next)
+
+  told-members : (k : Kind) (f : Found Rules)
+      → step-told image (on-got f (λ ms next. got (group k ms) next)) ≡ group-told (kind-of (is-all k)) image f
+  unfolding holds
+  told-members all malformed = refl
+  told-members any malformed = refl
+  told-members all (got ms next) = refl
+  told-members any (got ms next) = refl
+
+  told-rest : (d : ℕ) (f : Found Entry)
+      → step-told image (on-got f (λ e next. read-rest (read-rule d) e s next)) ≡ by-head (head-told image f) d
+  unfolding holds read-rest
+  told-rest d malformed = refl
+  told-rest d (got (one c) next) = refl
+  told-rest d (got (many all n) next) = told-members all (read-members n (read-rule d) s next)
+  told-rest d (got (many any n) next) = told-members any (read-members n (read-rule d) s next)
+
+  -- the answer of one case of the head that the code has found
+  pub rule-by-head : (at levels : ℕ) {x h : Head} → (levels ≡ 0 → ⊥) → x ≡ head-told image (read-entry s at) → x ≡ h
+      → by-head h (levels - 1) ≡ step-told image (read-rule levels s at)
+  unfolding read-rule
+  rule-by-head at levels some told e =
+      ap (λ (y : Head). by-head y (levels - 1)) (sym e ∙ told) ∙ sym (told-rest (levels - 1) (read-entry s at))
+      ∙ ap (λ (n : ℕ). step-told image (read-rule n s at)) (one-more some)
+
+-- A group, by its members from the first on.
+
+-- what is to be answered where the members so far come to acc, and these are left
+abbrev pub left-told : Kind → (image : List ℕ) → Bool → Found Rules → Step
+left-told k image acc malformed = Broken
+left-told k image acc (got ms next) = Good next (join k acc (members-hold ms k image image))
+
+pub nothing-joined : (b : Bool) (image : List ℕ) (f : Found Rules) → left-told (kind-of b) image b f ≡ group-told (kind-of b) image f
+unfolding join
+nothing-joined true image malformed = refl
+nothing-joined false image malformed = refl
+nothing-joined true image (got ms next) = refl
+nothing-joined false image (got ms next) = refl
+
+-- A member decides where its truth is not the group's truth for no members: all is decided by a false one, any by a true one.
+pub decided : (b acc h : Bool) → not (Bool·beq h b) ≡ true → h ≡ join (kind-of b) acc h
+unfolding join
+decided true acc true e = cc
+decided true true false e = refl
+decided true false false e = refl
+decided false true true e = refl
+decided false false true e = refl
+decided false acc false e = cc
+
+pub undecided : (b acc h : Bool) → not (Bool·beq h b) ≡ false → acc ≡ join (kind-of b) acc h
+unfolding join
+undecided true true true e = refl
+undecided true false true e = refl
+undecided true acc false e = cc
+undecided false acc true e = cc
+undecided false true false e = refl
+undecided false false false e = refl
+
+join-empty : (k : Kind) (acc : Bool) → join k acc (empty-holds k) ≡ acc
+unfolding join empty-holds
+join-empty all true = refl
+join-empty all false = refl
+join-empty any true = refl
+join-empty any false = refl
+
+join-assoc : (k : Kind) (a b c : Bool) → join k a (join k b c) ≡ join k (join k a b) c
+unfolding join
+join-assoc all true b c = refl
+join-assoc all false b c = refl
+join-assoc any true b c = refl
+join-assoc any false b c = refl
+
+module _ (k : Kind) (image : List ℕ) (member : Reader Rule) (s : List ℕ) where
+  pub none-left : (acc : Bool) (at : ℕ) {left : ℕ} → left ≡ 0 → left-told k image acc (read-members left member s at) ≡ Good at acc
+  unfolding read-members members-hold
+  none-left acc at e = rw (e, join-empty)
+
+  first-told : (acc : Bool) (r : Rule) (f : Found Rules)
+      → left-told k image acc (on-got f (λ ms next. got (cons r ms) next)) ≡ left-told k image (join k acc (holds r image image)) f
+  unfolding holds
+  first-told acc r malformed = refl
+  first-told acc r (got ms next) = ap (Good next) (join-assoc k acc (holds r image image) (members-hold ms k image image))
+
+  -- the members from this one on
+  abbrev from-member : ℕ → Found Rule → Found Rules
+  from-member n f = on-got f (λ r next. on-got (read-members n member s next) (λ ms end. got (cons r ms) end))
+
+  broken-told : (acc : Bool) (n : ℕ) (f : Found Rule) {x : Step} → x ≡ step-told image f → x ≡ Broken
+      → left-told k image acc (from-member n f) ≡ Broken
+  broken-told acc n malformed told e = refl
+  broken-told acc n (got r next) told e = cc
+
+  good-told : (acc : Bool) (n : ℕ) (f : Found Rule) {x : Step} {next : ℕ} {h : Bool} → x ≡ step-told image f → x ≡ Good next h
+      → left-told k image acc (from-member n f) ≡ left-told k image (join k acc h) (read-members n member s next)
+  good-told acc n malformed told e = cc
+  good-told acc n (got r end) {x} {next} {h} told e =
+      let same-end : end ≡ next = cc in
+      let same-truth : holds r image image ≡ h = cc in
+      first-told acc r (read-members n member s end) ∙ rw (same-end, same-truth)
+
+  one-of : (acc : Bool) (at : ℕ) {left : ℕ} → 0 < left
+      → left-told k image acc (read-members left member s at) ≡ left-told k image acc (from-member (left - 1) (member s at))
+  unfolding read-members
+  one-of acc at {left} some =
+      let e : left ≡ suc (left - 1) = omega arith in
+      ap (λ (n : ℕ). left-told k image acc (read-members n member s at)) e
+
+  pub member-broken : (acc : Bool) (at : ℕ) {left : ℕ} {x : Step} → 0 < left → x ≡ step-told image (member s at) → x ≡ Broken
+      → left-told k image acc (read-members left member s at) ≡ Broken
+  member-broken acc at {left} some told e = one-of acc at some ∙ broken-told acc (left - 1) (member s at) told e
+
+  pub member-judged : (acc : Bool) (at : ℕ) {left : ℕ} {x : Step} {next : ℕ} {h : Bool} → 0 < left → x ≡ step-told image (member s at) → x ≡ Good next h
+      → left-told k image acc (read-members left member s at) ≡ left-told k image (join k acc h) (read-members (left - 1) member s next)
+  member-judged acc at {left} some told e = one-of acc at some ∙ good-told acc (left - 1) (member s at) told e
