@@ -43,4 +43,5 @@ pub const LOG_LIMIT: usize = 1024;
 pub const CHUNK_SIZE: usize = 8;
 
 pub mod chunks;
+pub mod numbers;
 pub mod viewer;

@@ -1,0 +1,2 @@
+-- The starred trials hold.
+pub mod Starred
