@@ -149,5 +149,6 @@ update-reads-back s addr bytes h =
   where
     laid : List ℕ
     laid = lay (λ i. true) s addr bytes
+
     whole : length (extract-bytes laid addr (length bytes)) ≡ length bytes
     whole = length-take-le (length bytes) (drop addr laid) (omega (arith, length-drop addr laid, length-lay (λ i. true) s addr bytes))
