@@ -42,5 +42,7 @@ pub const LOG_LIMIT: usize = 1024;
 
 pub const CHUNK_SIZE: usize = 8;
 
+pub const POINTS_LIMIT: usize = 16;
+
 pub mod chunks;
 pub mod viewer;

@@ -2,7 +2,7 @@
 -- (`update-is-lay`), a selective one those in selected chunks (by definition). A loop that has laid j bytes has `lay keep s addr (take j bytes)`,
 -- and one byte more is one store or none (`lay-more`). Assumes nothing.
 use Prim.Native.Nat.{ℕ, zero, suc, _+_, _-_, _≤_, _<_}
-use native.Mathlib.Nat.{lt-of-lt-of-le, le-refl, eq-or-lt-of-le, add-sub-cancel-left, ne-of-lt, ne-of-gt, add-zero}
+use native.Mathlib.Nat.{sub-zero, lt-of-lt-of-le, le-refl, eq-or-lt-of-le, add-sub-cancel-left, ne-of-lt, ne-of-gt, add-zero}
 use native.Mathlib.Numerals.{add-one}
 use native.Mathlib.Decide.{decLt, ℕ-discrete}
 use native.Mathlib.Omega.{arith}
@@ -125,3 +125,12 @@ module _ (keep : ℕ → Bool) (s : List ℕ) (addr : ℕ) where
         subst⁻¹ (λ (n : ℕ). getD (lay keep s addr (take (suc j) bytes)) n 0 ≡ getD laid n 0) e
         (lay-new ∙ ap (λ (b : Bool). cond b (getD bytes j 0) (getD laid (addr + j) 0)) k))
         (λ ne. lay-other i g ne))
+
+-- a write over the whole image leaves nothing of it
+pub update-whole : (s bytes : List ℕ) → length s ≡ length bytes → update-bytes s 0 bytes ≡ bytes
+update-whole s bytes e =
+    update-is-lay s 0 bytes
+    ∙ ext-getD 0 (lay (λ i. true) s 0 bytes) bytes (length-lay (λ i. true) s 0 bytes ∙ e)
+    (λ i h.
+    let g : i < length s = subst (λ (n : ℕ). i < n) (length-lay (λ i. true) s 0 bytes) h in
+    lay-in (λ i. true) s 0 bytes i g (omega arith) (omega arith) ∙ ap (λ (k : ℕ). getD bytes k 0) (sub-zero i))
