@@ -1,1 +1,2 @@
 -- The laws of `tape`'s definitions.
+pub mod EpochLaws
