@@ -1,2 +1,5 @@
 -- The laws of `tape`'s definitions.
 pub mod EpochLaws
+pub mod Recorded
+pub mod PredictLaws
+pub mod NumberLaws

@@ -1,6 +1,6 @@
 -- How an epoch ends, by a flush or by a cut. Document 01: both meet 1, 10, 9, 11, take no rows, and move "the start past the epoch's header and rows, even with an empty log".
 use Prim.Native.Nat.{ℕ}
-use mathlib.Core.Bool.{Bool, cond, not}
+use mathlib.Core.Bool.{Bool, Bool·beq}
 use mathlib.Core.List.{List}
 use lib.ListN.{length}
 use Rattle.region.specs.Limits.{const-persistence-chunk-size}
@@ -14,7 +14,7 @@ use Rattle.tape.specs.Write.{or-else, tape-sound}
 
 -- the end is the one that the header foretells
 abbrev pub as-foretold : Bool → List ℕ → ℕ → Bool
-as-foretold flushing tape start = cond flushing (flush-foretold tape start) (not (flush-foretold tape start))
+as-foretold flushing tape start = Bool·beq (flush-foretold tape start) flushing
 
 -- the rows are those of the log: 0 to count - 1
 unfoldable pub ending-number : Bool → ℕ → State → ℕ → List ℕ → ℕ → ℕ → ℕ
