@@ -3,3 +3,5 @@ pub mod EpochLaws
 pub mod Recorded
 pub mod PredictLaws
 pub mod NumberLaws
+pub mod PromiseLaws
+pub mod RowsLaws

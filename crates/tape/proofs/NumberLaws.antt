@@ -28,10 +28,10 @@ use Rattle.tape.proofs.EpochLaws.{Epoch, epoch-facts}
 use Rattle.tape.proofs.Recorded.{sound-of-recorded}
 
 -- a number, or what comes after it
-pub go-on : {n : ℕ} (rest : ℕ) → n ≡ 0 → or-else n rest ≡ rest
+go-on : {n : ℕ} (rest : ℕ) → n ≡ 0 → or-else n rest ≡ rest
 go-on {n} rest e = sym (done-changed rest n e)
 
-pub stop : {n : ℕ} (why : Refusal) (rest : ℕ) → n ≡ refusal-number why → or-else n rest ≡ refusal-number why
+stop : {n : ℕ} (why : Refusal) (rest : ℕ) → n ≡ refusal-number why → or-else n rest ≡ refusal-number why
 stop {n} why rest e = sym (refused-left why rest n e) ∙ e
 
 both-none : (n rest : ℕ) → or-else n rest ≡ 0 → (n ≡ 0) × (rest ≡ 0)
@@ -62,6 +62,14 @@ module _ (L : ℕ) (st : State) (log-length predicted-length : ℕ) where
 
   -- a write
   module _ (tape : List ℕ) (start addr n : ℕ) where
+    pub tape-room-goes-on : room-number L st addr n ≡ 0 → tape-room-number L st tape start addr n ≡ epoch-number (size-to-chunks const-persistence-chunk-size L) (st .count + 1) tape start
+    unfolding tape-room-number
+    tape-room-goes-on e = go-on (epoch-number (size-to-chunks const-persistence-chunk-size L) (st .count + 1) tape start) e
+
+    pub tape-room-stops : (why : Refusal) → room-number L st addr n ≡ refusal-number why → tape-room-number L st tape start addr n ≡ refusal-number why
+    unfolding tape-room-number
+    tape-room-stops why e = stop why (epoch-number (size-to-chunks const-persistence-chunk-size L) (st .count + 1) tape start) e
+
     pub record TapeRoom : Type 0 where
       pub room : Room L st addr n
       pub epoch : Epoch (size-to-chunks const-persistence-chunk-size L) (st .count + 1) tape start
