@@ -5,3 +5,4 @@ pub mod PredictLaws
 pub mod NumberLaws
 pub mod PromiseLaws
 pub mod RowsLaws
+pub mod Futures

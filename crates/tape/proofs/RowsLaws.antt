@@ -6,7 +6,7 @@ use mathlib.Core.Path.{_≡_, refl, sym, ap, ap₂, _∙_}
 use mathlib.Core.Bool.{Bool, _&&_}
 use mathlib.Core.List.{List, [], _∷_, _++_}
 use lib.Dec.{eqb}
-use lib.ListN.{getD, drop}
+use lib.ListN.{length, getD, drop, List·getD-append}
 use lib.Seq.{getD-drop}
 use Rattle.region.specs.Tab.{tab}
 use Rattle.region.proofs.Tab.{agree-tab}
@@ -54,3 +54,30 @@ rows-at-last K zero table at = ap (λ (i : ℕ). row-at K table i ∷ []) (omega
 rows-at-last K (suc n) table at =
     ap (λ (rows : List (List Bool)). row-at K table at ∷ rows)
     (rows-at-last K n table (at + row-bytes K) ∙ ap (λ (i : ℕ). rows-at K n table (at + row-bytes K) ++ (row-at K table i ∷ [])) (omega (arith, suc-mul n (row-bytes K))))
+
+-- bytes behind the rows change nothing of them
+module _ (K : ℕ) (table more : List ℕ) where
+  row-bit-before : (at c : ℕ) → at + row-bytes K ≤ length table → c < row-bytes K * byte-bits → row-bit (table ++ more) at c ≡ row-bit table at c
+  row-bit-before at c fits h =
+      ap (λ (x : ℕ). eqb (x / 2 ^ (byte-bits - 1 - c % byte-bits) % 2) 1) (List·getD-append table more 0 (at + c / byte-bits) (omega arith))
+
+  row-before : (at : ℕ) → at + row-bytes K ≤ length table → row-at K (table ++ more) at ≡ row-at K table at
+  unfolding row-at
+  row-before at fits = agree-tab (row-bit (table ++ more) at) (row-bit table at) K (λ c h. row-bit-before at c fits (omega arith))
+
+  row-filled-before : (at : ℕ) → at + row-bytes K ≤ length table → row-filled K (table ++ more) at ≡ row-filled K table at
+  unfolding row-filled
+  row-filled-before at fits =
+      ap (λ (n : ℕ). eqb n 0) (set-bits-agree (row-bit (table ++ more) at) (row-bit table at) K (row-bytes K * byte-bits - K) (λ c l h. row-bit-before at c fits (omega arith)))
+
+  pub rows-before : (n at : ℕ) → at + n * row-bytes K ≤ length table → rows-at K n (table ++ more) at ≡ rows-at K n table at
+  unfolding rows-at
+  rows-before zero at fits = refl
+  rows-before (suc n) at fits =
+      ap₂ (_∷_) (row-before at (omega (arith, suc-mul n (row-bytes K)))) (rows-before n (at + row-bytes K) (omega (arith, suc-mul n (row-bytes K))))
+
+  pub rows-filled-before : (n at : ℕ) → at + n * row-bytes K ≤ length table → rows-filled K n (table ++ more) at ≡ rows-filled K n table at
+  unfolding rows-filled
+  rows-filled-before zero at fits = refl
+  rows-filled-before (suc n) at fits =
+      ap₂ (_&&_) (row-filled-before at (omega (arith, suc-mul n (row-bytes K)))) (rows-filled-before n (at + row-bytes K) (omega (arith, suc-mul n (row-bytes K))))
