@@ -6,3 +6,6 @@ pub mod NumberLaws
 pub mod PromiseLaws
 pub mod RowsLaws
 pub mod Futures
+pub mod Foretells
+pub mod Correspondence
+pub mod Steps
