@@ -1,13 +1,13 @@
 -- The correspondence that pmem_async_equiv_t.rs sketches: for every log and every crash of it there is a tape that foretells just that crash, and the predicted image is the
 -- original's durable state for the resolved prophecies. The other way round a tape's cut is a crash. Assumes nothing.
-use Prim.Native.Nat.{ℕ, _+_}
+use Prim.Native.Nat.{ℕ}
 use mathlib.Core.Path.{_≡_, refl, sym, ap, subst, subst⁻¹, _∙_}
 use mathlib.Core.Logic.{_↔_}
-use mathlib.Core.Bool.{Bool, true, false}
-use mathlib.Core.List.{List, [], _∷_, _++_}
+use mathlib.Core.Bool.{Bool, false}
+use mathlib.Core.List.{List, [], _++_}
 use lib.Dec.{lit<}
 use lib.ListN.{length}
-use Rattle.replay.specs.AsyncSpec.{AsyncView, flush-selective, can-crash-as, can-crash}
+use Rattle.replay.specs.AsyncSpec.{AsyncView, can-crash-as, can-crash}
 use Rattle.cuts.specs.Bits.{chunks}
 use Rattle.cuts.specs.Packed.{are-bytes}
 use Rattle.cuts.specs.Prophecy.{prophecy}

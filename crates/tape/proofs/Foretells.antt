@@ -1,15 +1,15 @@
 -- What a tape foretells of a log, step by step: nothing of an empty one; with one write more, a part-write by the new row, or the whole write under header 80. So the
 -- predictor is right at every step and not only at the cut. Assumes nothing.
-use Prim.Native.Nat.{ℕ, suc, _+_, _*_, _<_}
+use Prim.Native.Nat.{ℕ, _+_, _<_}
 use native.Mathlib.Numerals.{add-one}
-use mathlib.Core.Path.{_≡_, refl, sym, ap, subst⁻¹, _∙_}
+use mathlib.Core.Path.{_≡_, sym, ap, subst⁻¹, _∙_}
 use mathlib.Core.Bool.{Bool, true, false}
 use mathlib.Core.List.{List, [], _∷_, _++_}
 use lib.ListN.{length, length-append}
 use Rattle.region.specs.Pmemspec.{update-bytes}
 use Rattle.region.specs.View.{valid, can-result-from-write, flush-predicted}
-use Rattle.replay.specs.AsyncSpec.{AsyncView, len, size-to-chunks, write, readable, flush-selective, apply-write-selective, can-crash-as, can-crash}
-use Rattle.replay.specs.Rows.{row-at, row-bytes}
+use Rattle.replay.specs.AsyncSpec.{AsyncView, size-to-chunks, write, flush-selective, apply-write-selective, can-crash-as, can-crash}
+use Rattle.replay.specs.Rows.{row-at}
 use Rattle.cuts.specs.Bits.{new-write, chunks}
 use Rattle.cuts.specs.Prophecy.{prophecy}
 use Rattle.cuts.proofs.OneMore.{cut-of-a-write, read-of-a-write}

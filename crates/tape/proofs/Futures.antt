@@ -1,10 +1,10 @@
 -- Every future has a tape: whatever is to end each epoch and whatever rows its cut would keep, the tape of the packed rows tells exactly that, whatever bytes stand before and
 -- behind. Assumes nothing.
-use Prim.Native.Nat.{ℕ, suc, _+_, _*_, _^_, _≤_, _<_}
+use Prim.Native.Nat.{ℕ, suc, _+_, _*_, _^_, _<_}
 use native.Mathlib.Omega.{arith}
 use mathlib.Core.Path.{_≡_, refl, sym, ap, subst, _∙_}
 use mathlib.Core.Bool.{Bool, true, false, cond}
-use mathlib.Core.List.{List, [], _∷_, _++_, append-assoc, append-nil}
+use mathlib.Core.List.{List, [], _∷_, _++_, append-assoc}
 use lib.Dec.{lit<, eqb}
 use lib.ListN.{length, getD, drop, length-append}
 use lib.Seq.{getD-append-seam, drop-append-add}
@@ -14,7 +14,7 @@ use Rattle.replay.specs.Rows.{row-bytes, rows-at, rows-filled, byte-bits}
 use Rattle.cuts.specs.Packed.{packed, are-bytes}
 use Rattle.cuts.proofs.Packed.{bytes-of-append}
 use Rattle.cuts.proofs.Tables.{packed-is-right}
-use Rattle.tape.specs.Epoch.{flush-header, cut-header, header, header-right, flush-foretold, row-place, epoch-rows, epoch-there}
+use Rattle.tape.specs.Epoch.{flush-header, cut-header, header, header-right, flush-foretold, row-place}
 use Rattle.tape.specs.Future.{Foreseen, TellsEpoch, Tells, nothing, next, rows-of-width, AllOfWidth, none, more, epoch-bytes, tape-of}
 use Rattle.tape.proofs.EpochLaws.{epoch-good, flush-header-right, cut-header-right}
 use Rattle.tape.proofs.RowsLaws.{rows-of-part, rows-filled-of-part, rows-before, rows-filled-before}

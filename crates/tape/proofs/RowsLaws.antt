@@ -8,9 +8,8 @@ use mathlib.Core.List.{List, [], _∷_, _++_}
 use lib.Dec.{eqb}
 use lib.ListN.{length, getD, drop, List·getD-append}
 use lib.Seq.{getD-drop}
-use Rattle.region.specs.Tab.{tab}
 use Rattle.region.proofs.Tab.{agree-tab}
-use Rattle.replay.specs.Rows.{byte-bits, row-bytes, row-bit, row-at, rows-at, row-filled, rows-filled, set-bits}
+use Rattle.replay.specs.Rows.{byte-bits, row-bytes, row-bit, row-at, rows-at, row-filled, rows-filled}
 use Rattle.replay.proofs.ByteBits.{set-bits-agree}
 
 -- a table behind `skip` other bytes

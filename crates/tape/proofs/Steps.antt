@@ -1,30 +1,30 @@
 -- What a step by tape does to the view and to the prediction, from the calls' promises: the form that a run of calls is made of. Each law takes a promise of a call that was
--- done; `state-stays-sized` and the three `..-refused` serve the rest. Assumes nothing.
-use Prim.Native.Nat.{ℕ, _+_, _≤_, _<_}
+-- done; a refused call leaves everything as it was (`refused-write`, `refused-flush`, `refused-cut`). Assumes nothing.
+use Prim.Native.Nat.{ℕ, _≤_, _<_}
 use native.Mathlib.Omega.{arith}
 use mathlib.Core.Path.{_≡_, refl, sym, ap, ap₂, subst⁻¹, _∙_}
-use mathlib.Core.Bool.{Bool, true, false}
-use mathlib.Core.List.{List, [], _∷_}
+use mathlib.Core.Bool.{true, false}
+use mathlib.Core.List.{List, []}
 use lib.ListN.{length, length-set}
 use Rattle.region.specs.Limits.{writes-limit, const-persistence-chunk-size}
 use Rattle.region.specs.Answer.{if-done}
 use Rattle.region.specs.View.{can-result-from-write, flush-predicted}
 use Rattle.region.specs.declared.Answer.{Answer}
-use Rattle.region.proofs.AnswerLaws.{done-changed}
-use Rattle.replay.specs.AsyncSpec.{AsyncView, size-to-chunks, flush, readable, write, can-crash-as}
+use Rattle.region.proofs.AnswerLaws.{not-done, done-changed}
+use Rattle.replay.specs.AsyncSpec.{AsyncView, flush, readable, write, can-crash-as}
 use Rattle.cuts.specs.Bits.{chunks}
 use Rattle.cuts.proofs.Flush.{flush-leaves-the-read-image}
-use Rattle.writelog.specs.State.{view, log-records, writes-of, appended, emptied}
+use Rattle.writelog.specs.State.{view, writes-of, appended, emptied}
 use Rattle.writelog.specs.declared.state.State.{State}
 use Rattle.writelog.specs.declared.cut.CutAnswer.{CutAnswer}
-use Rattle.tape.specs.Epoch.{flush-foretold, epoch-rows, row-place}
+use Rattle.tape.specs.Epoch.{epoch-rows, row-place}
 use Rattle.tape.specs.Foretold.{foretold, predicted-image}
 use Rattle.tape.specs.Write.{tape-write-number, log-with, predicted-with, TapeWrites}
 use Rattle.tape.specs.Ending.{next-start, predicted-now}
 use Rattle.tape.specs.Flush.{tape-flush-number, TapeFlushes}
 use Rattle.tape.specs.Cut.{tape-cut-number, TapeCuts}
 use Rattle.tape.proofs.Recorded.{view-of-recorded, writes-counted}
-use Rattle.tape.proofs.NumberLaws.{TapeWritten, tape-write-done, Ending, ending-done}
+use Rattle.tape.proofs.NumberLaws.{tape-write-done, ending-done}
 use Rattle.tape.proofs.Foretells.{predicted-of-nothing, foretold-of-a-write, foretold-flush-is-predicted, foretold-cut-is-a-crash}
 use Rattle.tape.proofs.PredictLaws.{predicted-flush}
 
@@ -127,3 +127,40 @@ module _ (image : List ℕ) (st : State) (log tape : List ℕ) (start : ℕ) (pr
   -- "an accepted flush or cut leaves what was predicted": where the buffer held the prediction before
   pub leaves-the-predicted : {st′ : State} {start′ : ℕ} {image′ predicted′ : List ℕ} → predicted ≡ predicted-image C tape start v → StepOfEnding st′ start′ image′ predicted′ → image′ ≡ predicted
   leaves-the-predicted p e = e .image-after ∙ sym p
+
+-- a refused call changes nothing and uses no tape
+left-alone : {A : Type 0} {x : A} (number : ℕ) (after before : A) → 0 < number → x ≡ if-done number after before → x ≡ before
+left-alone number after before h e = e ∙ not-done number after before h
+
+module _ (image : List ℕ) (st : State) (log tape : List ℕ) (start : ℕ) (predicted : List ℕ) where
+  pub refused-write : {addr : ℕ} {bytes : List ℕ} {answer : Answer} {st′ : State} {log′ predicted′ : List ℕ}
+      → TapeWrites image st log tape start predicted addr bytes answer st′ log′ predicted′ → 0 < tape-write-number image st log tape start predicted addr (length bytes)
+      → (st′ ≡ st) × (log′ ≡ log) × (predicted′ ≡ predicted)
+  refused-write {addr} {bytes} p h =
+      let number = tape-write-number image st log tape start predicted addr (length bytes) in (
+        left-alone number (appended st addr (length bytes)) st h (p .state-after),
+        left-alone number (log-with st log bytes) log h (p .log-after),
+        left-alone number (predicted-with image st log tape start addr bytes) predicted h (p .predicted-after),
+      )
+
+  pub refused-flush : {answer : Answer} {st′ : State} {start′ : ℕ} {image′ predicted′ : List ℕ}
+      → TapeFlushes image st log tape start predicted answer st′ start′ image′ predicted′ → 0 < tape-flush-number image st log tape start predicted
+      → (st′ ≡ st) × (start′ ≡ start) × (image′ ≡ image) × (predicted′ ≡ predicted)
+  refused-flush p h =
+      let number = tape-flush-number image st log tape start predicted in (
+        left-alone number (emptied st) st h (p .state-after),
+        left-alone number (next-start (length image) st start) start h (p .start-after),
+        left-alone number (readable (view image st log)) image h (p .image-after),
+        left-alone number (readable (view image st log)) predicted h (p .predicted-after),
+      )
+
+  pub refused-cut : {answer : CutAnswer} {st′ : State} {start′ : ℕ} {image′ predicted′ : List ℕ}
+      → TapeCuts image st log tape start predicted answer st′ start′ image′ predicted′ → 0 < tape-cut-number image st log tape start predicted
+      → (st′ ≡ st) × (start′ ≡ start) × (image′ ≡ image) × (predicted′ ≡ predicted)
+  refused-cut p h =
+      let number = tape-cut-number image st log tape start predicted in (
+        left-alone number (emptied st) st h (p .state-after),
+        left-alone number (next-start (length image) st start) start h (p .start-after),
+        left-alone number (predicted-now image st log tape start) image h (p .image-after),
+        left-alone number (predicted-now image st log tape start) predicted h (p .predicted-after),
+      )
