@@ -2,11 +2,11 @@ use borrow.Author.Needs.{needs}
 use native.Mathlib.Omega.{arith}
 use lib.ListN.{length}
 use Prim.Native.Nat.{_-_, _≤_}
-use Rattle.trials.proofs.bytes.Statement.{statement}
-use Rattle.trials.proofs.bytes.Tie as tie
-use Rattle.trials.proofs.bytes.Reads as reads
-use Rattle.trials.proofs.bytes.Lts as lts
-use Rattle.trials.proofs.byte.Reads as byte-reads
+use Rattle.trials.proofs.print.bytes.Statement.{statement}
+use Rattle.trials.proofs.print.bytes.Tie as tie
+use Rattle.trials.proofs.print.bytes.Reads as reads
+use Rattle.trials.proofs.print.bytes.Lts as lts
+use Rattle.trials.proofs.print.byte.Reads as byte-reads
 
 abbrev Inv-loop : tie.InvT-loop
 Inv-loop s i₀ i = i ≤ length s
