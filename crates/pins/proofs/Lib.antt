@@ -2,3 +2,4 @@
 pub mod Scheme
 pub mod Region
 pub mod Writelog
+pub mod Tape

@@ -14,11 +14,11 @@ use Rattle.region.proofs.AnswerLaws.{done-changed, refused-left}
 use Rattle.region.proofs.Booleans.{cond-when, cond-unless, and-when, and-unless, both}
 use Rattle.replay.specs.AsyncSpec.{size-to-chunks}
 use Rattle.writelog.specs.State.{sound, appended}
-use Rattle.writelog.specs.Write.{room-number}
+use Rattle.writelog.specs.Write.{room-number, write-number}
 use Rattle.writelog.specs.declared.state.State.{State}
 use Rattle.writelog.proofs.Soundness.{Sound, sound-facts}
 use Rattle.writelog.proofs.Walk.{all-remain}
-use Rattle.writelog.proofs.WriteLaws.{passed, Room, room-done}
+use Rattle.writelog.proofs.WriteLaws.{passed, Room, room-done, write-sound}
 use Rattle.tape.specs.Epoch.{flush-foretold, epoch-number}
 use Rattle.tape.specs.Predictable.{Predictable}
 use Rattle.tape.specs.Write.{or-else, tape-sound, tape-room-number, tape-write-number}
@@ -159,3 +159,12 @@ module _ (image : List ℕ) (st : State) (log tape : List ℕ) (start : ℕ) (pr
       let a = passed (tape-sound (length image) st (length log) (length predicted)) 0 (tape-room-number (length image) st tape start addr n) e in
       let s = tape-sound-facts (length image) st (length log) (length predicted) (a .0) in
       record { facts = s .0; same = s .1; room = tape-room-done (length image) st (length log) (length predicted) tape start addr n (a .1) }
+
+  -- a write that is done by tape is done plainly
+  pub plainly-done : tape-write-number image st log tape start predicted addr n ≡ 0 → write-number image st log addr n ≡ 0
+  unfolding tape-write-number tape-room-number
+  plainly-done e =
+      let a = passed (tape-sound (length image) st (length log) (length predicted)) 0 (tape-room-number (length image) st tape start addr n) e in
+      let s = both (sound (length image) st (length log)) (eqb (length predicted) (length image)) (a .0) in
+      let b = both-none (room-number (length image) st addr n) (epoch-number (size-to-chunks const-persistence-chunk-size (length image)) (st .count + 1) tape start) (a .1) in
+      write-sound image st log addr n (s .0) ∙ b .0

@@ -1,0 +1,106 @@
+-- A done call by tape is the plain call of the log: the write records, the flush flushes, and the cut cuts by the epoch's own rows. So whatever is known of the plain calls holds
+-- of these. Assumes nothing.
+use Prim.Native.Nat.{ℕ, _+_, _*_, _≤_}
+use native.Mathlib.Omega.{arith}
+use mathlib.Core.Path.{_≡_, sym, ap, ap₂, _∙_}
+use mathlib.Core.Bool.{true, false}
+use mathlib.Core.List.{List, [], _∷_, _++_}
+use lib.ListN.{length, take, drop, length-drop, take-append-drop}
+use lib.Seq.{length-take-le}
+use borrow.Author.Tests.{eq-eqb}
+use Rattle.region.specs.Limits.{writes-limit, const-persistence-chunk-size}
+use Rattle.region.specs.Answer.{if-done}
+use Rattle.region.specs.declared.Answer.{Answer}
+use Rattle.region.proofs.Booleans.{both-true}
+use Rattle.replay.specs.AsyncSpec.{readable, flush-selective}
+use Rattle.replay.specs.Kept.{kept}
+use Rattle.replay.specs.Rows.{row-bytes, rows-at, rows-filled, rows-right}
+use Rattle.writelog.specs.State.{view, appended, emptied}
+use Rattle.writelog.specs.Write.{write-number, Writes}
+use Rattle.writelog.specs.Flush.{flush-number, Flushes}
+use Rattle.writelog.specs.Cut.{chunks, cut-number, cut-kept, cut-image, Cuts}
+use Rattle.writelog.specs.declared.state.State.{State}
+use Rattle.writelog.specs.declared.cut.CutAnswer.{CutAnswer}
+use Rattle.writelog.proofs.Soundness.{facts-sound}
+use Rattle.writelog.proofs.FlushLaws.{flush-sound}
+use Rattle.writelog.proofs.CutLaws.{cut-good}
+use Rattle.tape.specs.Epoch.{epoch-rows}
+use Rattle.tape.specs.Write.{tape-write-number, log-with, TapeWrites}
+use Rattle.tape.specs.Ending.{predicted-now}
+use Rattle.tape.specs.Flush.{tape-flush-number, TapeFlushes}
+use Rattle.tape.specs.Cut.{tape-cut-number, tape-kept, TapeCuts}
+use Rattle.tape.proofs.NumberLaws.{plainly-done, ending-done}
+use Rattle.tape.proofs.PredictLaws.{predicted-cut}
+use Rattle.tape.proofs.Recorded.{writes-counted}
+use Rattle.tape.proofs.RowsLaws.{rows-of-part, rows-filled-of-part, rows-before, rows-filled-before}
+
+-- the epoch's rows as a row table of its own
+abbrev pub epoch-table : ℕ → ℕ → List ℕ → ℕ → List ℕ
+epoch-table K n tape start = take (n * row-bytes K) (drop (start + 1) tape)
+
+module _ (K n : ℕ) (tape : List ℕ) (start : ℕ) (fits : start + 1 + n * row-bytes K ≤ length tape) where
+  long : length (epoch-table K n tape start) ≡ n * row-bytes K
+  long = length-take-le (n * row-bytes K) (drop (start + 1) tape) (omega (arith, length-drop (start + 1) tape))
+
+  whole : take (n * row-bytes K) (drop (start + 1) tape) ++ drop (n * row-bytes K) (drop (start + 1) tape) ≡ drop (start + 1) tape
+  whole = take-append-drop (n * row-bytes K) (drop (start + 1) tape)
+
+  pub rows-of-epoch-table : rows-at K n (epoch-table K n tape start) 0 ≡ epoch-rows K n tape start
+  rows-of-epoch-table =
+      sym (rows-before K (epoch-table K n tape start) (drop (n * row-bytes K) (drop (start + 1) tape)) n 0 (omega (arith, long)))
+      ∙ ap (λ (t : List ℕ). rows-at K n t 0) whole ∙ rows-of-part K tape (start + 1) n
+
+  pub epoch-table-right : rows-filled K n tape (start + 1) ≡ true → rows-right K n (epoch-table K n tape start) ≡ true
+  epoch-table-right e =
+      both-true (eq-eqb (length (epoch-table K n tape start)) (n * row-bytes K) long)
+      (sym (rows-filled-before K (epoch-table K n tape start) (drop (n * row-bytes K) (drop (start + 1) tape)) n 0 (omega (arith, long)))
+      ∙ ap (λ (t : List ℕ). rows-filled K n t 0) whole ∙ rows-filled-of-part K tape (start + 1) n ∙ e)
+
+module _ (image : List ℕ) (st : State) (log tape : List ℕ) (start : ℕ) (predicted : List ℕ) where
+  pub tape-write-is-a-write : {addr : ℕ} {bytes : List ℕ} {answer : Answer} {st′ : State} {log′ predicted′ : List ℕ}
+      → TapeWrites image st log tape start predicted addr bytes answer st′ log′ predicted′ → tape-write-number image st log tape start predicted addr (length bytes) ≡ 0
+      → Writes image st log addr bytes answer st′ log′
+  tape-write-is-a-write {addr} {bytes} p none =
+      let same : tape-write-number image st log tape start predicted addr (length bytes) ≡ write-number image st log addr (length bytes)
+      = none ∙ sym (plainly-done image st log tape start predicted addr (length bytes) none) in
+      record {
+        answers = p .answers ∙ same;
+        state-after = p .state-after ∙ ap (λ k. if-done k (appended st addr (length bytes)) st) same;
+        log-after = p .log-after ∙ ap (λ k. if-done k (log-with st log bytes) log) same;
+      }
+
+  pub tape-flush-is-a-flush : {answer : Answer} {st′ : State} {start′ : ℕ} {image′ predicted′ : List ℕ}
+      → TapeFlushes image st log tape start predicted answer st′ start′ image′ predicted′ → tape-flush-number image st log tape start predicted ≡ 0
+      → Flushes image st log answer st′ image′
+  tape-flush-is-a-flush p none =
+      let told = ending-done (length image) st (length log) (length predicted) true tape start none in
+      let same : tape-flush-number image st log tape start predicted ≡ flush-number image st log = none ∙ sym (flush-sound image st log (facts-sound (length image) st (length log) (told .facts))) in
+      record {
+        answers = p .answers ∙ same;
+        state-after = p .state-after ∙ ap (λ k. if-done k (emptied st) st) same;
+        image-after = p .image-after ∙ ap (λ k. if-done k (readable (view image st log)) image) same;
+      }
+
+  -- the cut by the epoch's rows
+  abbrev table : List ℕ
+  table = epoch-table (chunks image) (st .count) tape start
+
+  pub tape-cut-is-a-cut : length (st .records) ≡ writes-limit → {answer : CutAnswer} {st′ : State} {start′ : ℕ} {image′ predicted′ : List ℕ}
+      → TapeCuts image st log tape start predicted answer st′ start′ image′ predicted′ → tape-cut-number image st log tape start predicted ≡ 0
+      → Cuts image st log table answer st′ image′
+  tape-cut-is-a-cut sized p none =
+      let told = ending-done (length image) st (length log) (length predicted) false tape start none in
+      let fits = told .epoch .there .fits in
+      let rows = rows-of-epoch-table (chunks image) (st .count) tape start fits in
+      let same : tape-cut-number image st log tape start predicted ≡ cut-number image st log table
+      = none ∙ sym (cut-good image st log table (facts-sound (length image) st (length log) (told .facts)) (epoch-table-right (chunks image) (st .count) tape start fits (told .epoch .filled))) in
+      let pieces : tape-kept image st log tape start ≡ cut-kept image st log table = ap (kept const-persistence-chunk-size (view image st log .outstanding-writes)) (sym rows) in
+      let found : predicted-now image st log tape start ≡ cut-image image st log table
+      = predicted-cut const-persistence-chunk-size tape start (view image st log) (told .foretold)
+      ∙ ap (λ k. flush-selective const-persistence-chunk-size (view image st log) (epoch-rows (chunks image) k tape start)) (writes-counted image st log (omega (arith, sized, told .facts .few)))
+      ∙ ap (flush-selective const-persistence-chunk-size (view image st log)) (sym rows) in
+      record {
+        answers = p .answers ∙ ap₂ (λ k n. record { number = k; values = if-done k (n ∷ []) [] }) same pieces;
+        state-after = p .state-after ∙ ap (λ k. if-done k (emptied st) st) same;
+        image-after = p .image-after ∙ ap₂ (λ k x. if-done k x image) same found;
+      }
