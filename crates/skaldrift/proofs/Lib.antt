@@ -1,0 +1,2 @@
+-- The laws of `skaldrift`'s definitions.
+pub mod WordLaws
