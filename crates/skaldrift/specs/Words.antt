@@ -28,6 +28,10 @@ state-of words = record { count = getD words 0 0; records = records-of (drop 1 w
 abbrev pub words-of : State → List ℕ
 words-of st = st .count ∷ record-words (st .records)
 
+-- `report` afterwards: the n, m or kept that a call reports, or what it held where the call reports nothing
+abbrev pub reported : Report → ℕ → ℕ
+reported r held = getD (r .values) 0 held
+
 -- what a call makes of the state that the words say, where they are as many as a state has, and its refusal otherwise
 abbrev pub of-state {ℓ} : {A : Type ℓ} → List ℕ → A → (State → A) → A
 of-state words refused call = unless (eqb (length words) state-words) refused (call (state-of words))

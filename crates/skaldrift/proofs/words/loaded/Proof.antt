@@ -1,3 +1,4 @@
+-- `loaded` meets its contract. Invariant: the first i records are those that the words say. Assumes nothing.
 use Prim.Native.Nat.{ℕ, _-_, _≤_}
 use native.Mathlib.Omega.{arith}
 use mathlib.Core.Path.{_≡_, refl, ap, _∙_}

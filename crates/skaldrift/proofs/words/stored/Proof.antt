@@ -1,3 +1,4 @@
+-- `stored` meets its contract. Invariant: the words of the count and of the first i records are the state's. Assumes nothing.
 use Prim.Native.Nat.{ℕ, _+_, _*_, _-_, _≤_}
 use native.Mathlib.Omega.{arith}
 use mathlib.Core.Path.{_≡_, refl, sym, ap, _∙_}
