@@ -17,3 +17,7 @@ writes-limit = 32
 -- "with at most 1024 data bytes together, packed oldest first in a log buffer of 1024 bytes"
 abbrev pub log-limit : ℕ
 log-limit = 1024
+
+-- "7: n over 16": the choice points that the gate tries
+abbrev pub points-limit : ℕ
+points-limit = 16

@@ -42,6 +42,8 @@ pub const LOG_LIMIT: usize = 1024;
 
 pub const CHUNK_SIZE: usize = 8;
 
+pub const POINTS_LIMIT: usize = 16;
+
 pub mod chunks;
 pub mod numbers;
 pub mod viewer;

@@ -2,3 +2,4 @@
 pub mod Laid
 pub mod RowBits
 pub mod ByteBits
+pub mod ChoiceBits

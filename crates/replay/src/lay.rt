@@ -4,9 +4,10 @@ use region::CHUNK_SIZE;
 ghost use mathlib.Core.Path.{_≡_};
 ghost use Prim.Native.Nat.{_+_, _≤_};
 ghost use lib.ListN.{length};
-ghost use Rattle.region.specs.Limits.{const-persistence-chunk-size};
+ghost use Rattle.region.specs.Limits.{const-persistence-chunk-size, points-limit};
 ghost use Rattle.region.specs.Pmemspec.{update-bytes};
 ghost use Rattle.replay.specs.AsyncSpec.{apply-write-selective, size-to-chunks};
+ghost use Rattle.replay.specs.Choice.{touched, row-of};
 ghost use Rattle.replay.specs.Rows.{row-at, row-bytes};
 
 // The whole write: `apply_write`.
@@ -30,6 +31,23 @@ pub fn lay_selected(work: &mut [u8], addr: usize, bytes: &[u8], rows: &[u8], at:
     let mut j = 0;
     while j < bytes.len() {
         if row_bit(rows, at, (addr + j) / CHUNK_SIZE) {
+            work[addr + j] = bytes[j];
+        }
+        j += 1;
+    }
+}
+
+// Only the bytes in chunks that choice number m keeps, whose bit 0 is for the first chunk that the
+// write touches.
+pub fn lay_chosen(work: &mut [u8], addr: usize, bytes: &[u8], m: usize)
+    requires { ⌜ addr + length (now bytes) ≤ length (now work) ⌝ }
+    requires { ⌜ touched const-persistence-chunk-size addr (length (now bytes)) ≤ points-limit ⌝ }
+    ensures { λ _. ⌜ now (work .exit) ≡ apply-write-selective const-persistence-chunk-size (now (work .entry)) (record { addr = addr; bytes = now (bytes .entry) }) (row-of const-persistence-chunk-size (size-to-chunks const-persistence-chunk-size (length (now (work .entry)))) (record { addr = addr; bytes = now (bytes .entry) }) m) ⌝ }
+{
+    let first = addr / CHUNK_SIZE;
+    let mut j = 0;
+    while j < bytes.len() {
+        if (m >> ((addr + j) / CHUNK_SIZE - first)) % 2 == 1 {
             work[addr + j] = bytes[j];
         }
         j += 1;

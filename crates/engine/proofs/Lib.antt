@@ -1,0 +1,4 @@
+-- The laws of the plain engine. `PointLaws` counts points by records; `TrialLaws` takes a trial apart into its three steps.
+pub mod PointLaws
+pub mod TrialLaws
+pub mod SearchLaws

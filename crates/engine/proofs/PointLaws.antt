@@ -1,0 +1,53 @@
+-- The choice points of a log, one record at a time. Assumes nothing.
+use Prim.Native.Nat.{ℕ, _+_, _-_, _≤_, _<_}
+use native.Mathlib.Nat.{add-sub-cancel-left, sub-self}
+use native.Mathlib.Omega.{arith}
+use mathlib.Core.Path.{_≡_, refl, ap, ap₂, _∙_}
+use mathlib.Core.Bool.{Bool, true}
+use mathlib.Core.List.{List, [], _∷_}
+use lib.ListN.{length, take, drop, length-drop}
+use lib.Seq.{length-take-le}
+use borrow.Author.Tests.{le-leb, leb-true}
+use Rattle.region.specs.Limits.{const-persistence-chunk-size}
+use Rattle.region.proofs.Booleans.{both, both-true}
+use Rattle.replay.specs.Choice.{touched, points}
+use Rattle.writelog.specs.State.{log-records, together, writes-of, records-inside}
+use Rattle.writelog.specs.Log.{last-records, Remaining}
+use Rattle.writelog.specs.declared.state.Record.{Record}
+use Rattle.writelog.specs.declared.state.State.{State}
+use Rattle.writelog.proofs.Records.{next-and-rest}
+use Rattle.writelog.proofs.Walk.{oldest}
+use Rattle.engine.specs.Count.{record-points}
+
+pub points-by-records : (C : ℕ) (rs : List Record) (log : List ℕ) → together rs ≤ length log → points C (writes-of rs log) ≡ record-points C rs
+unfolding points record-points writes-of together
+points-by-records C [] log h = refl
+points-by-records C (r ∷ rs) log h =
+    let whole : length (take (r .len) log) ≡ r .len = length-take-le (r .len) log (omega arith) in
+    ap₂ (λ (n m : ℕ). touched C (r .addr) n + m) whole (points-by-records C rs (drop (r .len) log) (omega (arith, length-drop (r .len) log)))
+
+-- records inside an image lie inside a longer one
+pub inside-longer : (L M : ℕ) (rs : List Record) → L ≤ M → records-inside L rs ≡ true → records-inside M rs ≡ true
+unfolding records-inside
+inside-longer L M [] h e = refl
+inside-longer L M (r ∷ rs) h e =
+    let parts = both _ _ e in
+    both-true (le-leb (r .addr + r .len) M (omega (arith, leb-true (r .addr + r .len) L (parts .0)))) (inside-longer L M rs h (parts .1))
+
+-- a write's bytes in the log buffer are as many as its record says
+pub piece-length : (at n : ℕ) (log : List ℕ) → at + n ≤ length log → length (take (at + n - at) (drop at log)) ≡ n
+piece-length at n log h = ap (λ (k : ℕ). length (take k (drop at log))) (add-sub-cancel-left at n) ∙ length-take-le n (drop at log) (omega (arith, length-drop at log))
+
+-- the points of the oldest remaining write, and of those after it
+pub points-more : (L : ℕ) (st : State) (n at left : ℕ) → Remaining L st n at left → 0 < left
+    → record-points const-persistence-chunk-size (last-records st left)
+    ≡ touched const-persistence-chunk-size (oldest st left .addr) (oldest st left .len) + record-points const-persistence-chunk-size (last-records st (left - 1))
+unfolding record-points
+points-more L st n at left r p =
+    let follow : st .count - left + 1 ≡ st .count - (left - 1) = omega (arith, r .some) in
+    ap (record-points const-persistence-chunk-size) (next-and-rest st (st .count - left) (omega (arith, r .some)) (omega (arith, r .sized, r .few)))
+    ∙ ap (λ (k : ℕ). touched const-persistence-chunk-size (oldest st left .addr) (oldest st left .len) + record-points const-persistence-chunk-size (drop k (log-records st))) follow
+
+-- all points of the log
+pub all-points : (C : ℕ) (st : State) → record-points C (last-records st (st .count)) ≡ record-points C (log-records st)
+all-points C st = ap (λ (k : ℕ). record-points C (drop k (log-records st))) (sub-self (st .count))

@@ -1,0 +1,53 @@
+// The search: all choice numbers from 0 on, to the first whose image breaks the sheet.
+use crate::trial::trial;
+use sheet::Judged;
+use sheet::judge;
+use writelog::state::State;
+ghost use mathlib.Core.Path.{_≡_};
+ghost use lib.ListN.{length};
+ghost use Rattle.sheet.specs.Sheet.{obeys};
+ghost use Rattle.writelog.specs.State.{view};
+ghost use Rattle.engine.specs.Search.{Ready, Searches};
+
+pub enum Outcome {
+    AllGood,
+    FirstBad(usize),
+}
+
+// A sheet that is malformed nothing obeys.
+fn obeyed(sheet: &[u8], image: &[u8]) -> bool
+    ensures { λ r. ⌜ r ≡ obeys (now (sheet .entry)) (now (image .entry)) (now (image .entry)) ⌝ }
+{
+    match judge(sheet, image) {
+        Judged::Obeys => true,
+        Judged::Breaks => false,
+        Judged::Malformed => false,
+    }
+}
+
+// Tries the numbers of `points` choice points. What it leaves in `work` is its last trial: the first
+// bad image, or the read image, which the last number leaves.
+pub fn search(
+    state: State,
+    image: &[u8],
+    log: &[u8],
+    sheet: &[u8],
+    work: &mut [u8],
+    addr: usize,
+    bytes: &[u8],
+    points: usize,
+) -> Outcome
+    requires { ⌜ Ready (length (now image)) state (length (now log)) (length (now work)) addr (length (now bytes)) points ⌝ }
+    ensures { λ r. ⌜ Searches (view (now (image .entry)) state (now (log .entry))) (now (sheet .entry)) addr (now (bytes .entry)) r (now (work .exit)) ⌝ }
+{
+    let numbers = 1 << points;
+    let mut m = 0;
+    while m < numbers {
+        trial(state, image, log, work, addr, bytes, points, m);
+        if !obeyed(sheet, work) {
+            return Outcome::FirstBad(m);
+        }
+        m += 1;
+    }
+    Outcome::AllGood
+}

@@ -1,0 +1,39 @@
+use borrow.Author.Needs.{needs}
+use Rattle.gate.proofs.judge.formed.Statement.{statement}
+use Rattle.gate.proofs.judge.formed.Tie as tie
+use Rattle.gate.proofs.judge.formed.Reads as reads
+use Rattle.gate.proofs.judge.formed.Lts as lts
+use Rattle.sheet.proofs.judge.Reads as judge-reads
+
+-- src/judge.rt:24:11
+judge-requires : tie.Need-judge-requires
+judge-requires c κs = search needs
+
+-- src/judge.rt:25:30
+enum-told : tie.Need-enum-told
+enum-told c = search needs
+
+-- src/judge.rt:26:26
+enum-told-2 : tie.Need-enum-told-2
+enum-told-2 c = search needs
+
+-- src/judge.rt:27:27
+enum-told-3 : tie.Need-enum-told-3
+enum-told-3 c = search needs
+
+-- src/judge.rt:21:1
+returns : tie.Need-returns
+returns c = ?
+
+-- src/judge.rt:21:1
+returns-2 : tie.Need-returns-2
+returns-2 c = ?
+
+-- src/judge.rt:21:1
+returns-3 : tie.Need-returns-3
+returns-3 c = ?
+
+pub formed-spec : {M : Type 1} → statement M
+formed-spec =
+    tie.close
+    (tie.spec judge-requires enum-told enum-told-2 enum-told-3 returns returns-2 returns-3)

@@ -1,0 +1,47 @@
+use borrow.Author.Needs.{needs}
+use Rattle.gate.proofs.judge.judge.Statement.{statement}
+use Rattle.gate.proofs.judge.judge.Tie as tie
+use Rattle.gate.proofs.judge.judge.Reads as reads
+use Rattle.gate.proofs.judge.judge.Lts as lts
+use Rattle.gate.proofs.judge.decide.Reads as decide-reads
+use Rattle.writelog.proofs.state.checked.Reads as checked-reads
+
+-- src/judge.rt:92:36
+checked-requires : tie.Need-checked-requires
+checked-requires c κs = search needs
+
+-- src/judge.rt:92:28
+enum-known-used : tie.Need-enum-known-used
+enum-known-used c = search needs
+
+-- src/judge.rt:93:33
+enum-told : tie.Need-enum-told
+enum-told c = search needs
+
+-- src/judge.rt:93:9
+returns : tie.Need-returns
+returns c = ?
+
+-- src/judge.rt:95:5
+decide-requires : tie.Need-decide-requires
+decide-requires c κs = ?
+
+-- src/judge.rt:81:1
+same-length : tie.Need-same-length
+same-length c = search needs
+
+-- src/judge.rt:81:1
+returns-2 : tie.Need-returns-2
+returns-2 c = search needs
+
+pub judge-spec : {M : Type 1} → statement M
+judge-spec =
+    tie.close
+    (tie.spec
+    checked-requires
+    enum-known-used
+    enum-told
+    returns
+    decide-requires
+    same-length
+    returns-2)

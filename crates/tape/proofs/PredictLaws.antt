@@ -1,0 +1,53 @@
+-- The predicted image is what the log's own replay leaves over a copy of the image. Assumes nothing.
+use Prim.Native.Nat.{ℕ, _+_, _≤_, _<_}
+use native.Mathlib.Nat.{sub-zero, zero-add}
+use native.Mathlib.Omega.{arith}
+use mathlib.Core.Path.{_≡_, sym, ap, ap₂, _∙_}
+use mathlib.Core.Bool.{Bool, true, false}
+use mathlib.Core.List.{List}
+use lib.ListN.{length, getD}
+use lib.Seq.{ext-getD}
+use Rattle.region.specs.Limits.{const-persistence-chunk-size}
+use Rattle.region.specs.Pmemspec.{update-bytes}
+use Rattle.region.proofs.Booleans.{cond-when, cond-unless}
+use Rattle.replay.specs.AsyncSpec.{Write, AsyncView, size-to-chunks, committed, readable, flush-writes, flush-writes-selective, flush-selective}
+use Rattle.replay.specs.Rows.{rows-at}
+use Rattle.replay.proofs.Laid.{update-is-lay, lay-in}
+use Rattle.writelog.specs.State.{view}
+use Rattle.writelog.specs.Log.{last-writes}
+use Rattle.writelog.specs.declared.state.State.{State}
+use Rattle.writelog.proofs.Walk.{all-writes}
+use Rattle.tape.specs.Epoch.{flush-foretold, epoch-rows}
+use Rattle.tape.specs.Foretold.{predicted-image}
+use Rattle.tape.specs.Ending.{predicted-now}
+use Rattle.tape.proofs.Recorded.{length-update, writes-counted}
+
+-- bytes laid over as many others are a copy
+pub copied : (s bytes : List ℕ) → length s ≡ length bytes → update-bytes s 0 bytes ≡ bytes
+copied s bytes same =
+    let long : length (update-bytes s 0 bytes) ≡ length s = length-update s 0 bytes (omega arith) in
+    ext-getD 0 (update-bytes s 0 bytes) bytes (long ∙ same)
+    (λ i h. ap (λ (x : List ℕ). getD x i 0) (update-is-lay s 0 bytes) ∙ lay-in (λ i. true) s 0 bytes i (omega arith) (omega arith) (omega arith) ∙ ap (λ (j : ℕ). getD bytes j 0) (sub-zero i))
+
+-- the two headers
+pub predicted-flush : (C : ℕ) (tape : List ℕ) (start : ℕ) (v : AsyncView) → flush-foretold tape start ≡ true → predicted-image C tape start v ≡ readable v
+predicted-flush C tape start v e = cond-when (flush-foretold tape start) (readable v) _ e
+
+pub predicted-cut : (C : ℕ) (tape : List ℕ) (start : ℕ) (v : AsyncView) → flush-foretold tape start ≡ false
+    → predicted-image C tape start v ≡ flush-selective C v (epoch-rows (size-to-chunks C (length (v .state-at-last-flush))) (length (v .outstanding-writes)) tape start)
+predicted-cut C tape start v e = cond-unless (flush-foretold tape start) (readable v) _ e
+
+-- the replay of the log over a copy w of the image
+module _ (image : List ℕ) (st : State) (log tape : List ℕ) (start : ℕ) {w : List ℕ} (same : w ≡ image) where
+  walked : last-writes st (st .count) log 0 ≡ view image st log .outstanding-writes
+  walked = all-writes (length image) st (length log) log
+
+  pub replayed-whole : flush-foretold tape start ≡ true → committed (flush-writes w (last-writes st (st .count) log 0)) ≡ predicted-now image st log tape start
+  replayed-whole e = ap₂ (λ (s : List ℕ) (ws : List Write). committed (flush-writes s ws)) same walked ∙ sym (predicted-flush const-persistence-chunk-size tape start (view image st log) e)
+
+  pub replayed-selected : st .count ≤ length (st .records) → flush-foretold tape start ≡ false
+      → flush-writes-selective const-persistence-chunk-size w (last-writes st (st .count) log 0) (rows-at (size-to-chunks const-persistence-chunk-size (length w)) (st .count) tape (start + 1)) ≡ predicted-now image st log tape start
+  replayed-selected few e =
+      ap₂ (λ (s : List ℕ) (ws : List Write). flush-writes-selective const-persistence-chunk-size s ws (rows-at (size-to-chunks const-persistence-chunk-size (length s)) (st .count) tape (start + 1))) same walked
+      ∙ ap (λ (n : ℕ). flush-selective const-persistence-chunk-size (view image st log) (rows-at (size-to-chunks const-persistence-chunk-size (length image)) n tape (start + 1))) (sym (writes-counted image st log few))
+      ∙ sym (predicted-cut const-persistence-chunk-size tape start (view image st log) e)

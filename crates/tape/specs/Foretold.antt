@@ -1,0 +1,16 @@
+-- What a tape foretells of a log: `view` of `PMRegionProph` in pmem_async_equiv_v.rs, whose prophecies are here the epoch's header and rows. Its durable state is document
+-- 01's predicted image: "the replay of the log with this epoch's rows (all kept under 80)".
+use Prim.Native.Nat.{ℕ}
+use mathlib.Core.List.{List}
+use lib.ListN.{length}
+use Rattle.region.specs.View.{PersistentMemoryRegionView}
+use Rattle.replay.specs.AsyncSpec.{AsyncView, len, size-to-chunks}
+use Rattle.cuts.specs.Prophecy.{prophecy}
+use Rattle.tape.specs.Epoch.{flush-foretold, epoch-rows}
+
+abbrev pub foretold : ℕ → List ℕ → ℕ → AsyncView → PersistentMemoryRegionView
+foretold C tape start v =
+    prophecy C (flush-foretold tape start) v (epoch-rows (size-to-chunks C (len v)) (length (v .outstanding-writes)) tape start)
+
+abbrev pub predicted-image : ℕ → List ℕ → ℕ → AsyncView → List ℕ
+predicted-image C tape start v = (foretold C tape start v) .durable-state

@@ -1,0 +1,9 @@
+-- The definitions that `tape`'s contracts cite: `Epoch` reads the tape, `Foretold` is the prophecy view that it gives a log, `Write`, `Flush` and `Cut` are what each call
+-- answers and leaves behind.
+pub mod Epoch
+pub mod Foretold
+pub mod Predictable
+pub mod Write
+pub mod Ending
+pub mod Flush
+pub mod Cut

@@ -1,0 +1,41 @@
+// The predicted image, computed from image, log and rows each time, whatever the buffer held.
+use crate::epoch::flush_foretold;
+use region::chunks::size_to_chunks;
+use replay::lay::lay;
+use replay::rows::row_bytes;
+use writelog::log::replay_selected;
+use writelog::log::replay_whole;
+use writelog::state::State;
+ghost use mathlib.Core.Path.{_≡_};
+ghost use lib.ListN.{length};
+ghost use Rattle.tape.specs.Ending.{predicted-now};
+ghost use Rattle.tape.specs.Predictable.{Predictable};
+
+pub fn predict(
+    state: State,
+    image: &[u8],
+    log: &[u8],
+    tape: &[u8],
+    start: usize,
+    predicted: &mut [u8],
+)
+    requires { ⌜ Predictable (length (now image)) state (length (now log)) (now tape) start (length (now predicted)) ⌝ }
+    ensures { λ _. ⌜ now (predicted .exit) ≡ predicted-now (now (image .entry)) state (now (log .entry)) (now (tape .entry)) start ⌝ }
+{
+    lay(predicted, 0, image);
+    if flush_foretold(tape, start) {
+        replay_whole(state, log, predicted, 0, state.count);
+        return;
+    }
+    let width = row_bytes(size_to_chunks(image.len()));
+    replay_selected(
+        state,
+        log,
+        tape,
+        width,
+        predicted,
+        0,
+        start + 1,
+        state.count,
+    );
+}

@@ -1,0 +1,78 @@
+// The write by tape.
+use crate::epoch::epoch;
+use crate::predict::predict;
+use region::Answer;
+use region::Refusal;
+use writelog::state::Outstanding;
+use writelog::state::State;
+use writelog::state::checked;
+use writelog::write::Written;
+use writelog::write::recorded;
+use writelog::write::room;
+ghost use mathlib.Core.Path.{_≡_};
+ghost use Prim.Native.Nat.{_≤_};
+ghost use Rattle.region.specs.Answer.{answer-number};
+ghost use Rattle.region.specs.Limits.{image-limit, log-limit};
+ghost use Rattle.writelog.specs.State.{log-records, together};
+ghost use Rattle.tape.specs.Write.{tape-room-number, TapeWrites};
+
+// Is there room for a write of `len` bytes, and a right row for it on the tape? Document 01's 2, 3,
+// 4, 10 and 9.
+pub fn tape_room(
+    size: usize,
+    state: State,
+    used: usize,
+    tape: &[u8],
+    start: usize,
+    addr: usize,
+    len: usize,
+) -> Answer
+    requires { ⌜ (used ≡ together (log-records state)) × (used ≤ log-limit) × (size ≤ image-limit) ⌝ }
+    ensures { λ r. ⌜ answer-number r ≡ tape-room-number size state (now (tape .entry)) start addr len ⌝ }
+{
+    let answer = room(size, state, used, addr, len);
+    match answer {
+        Answer::Done => epoch(tape, start, state.count + 1, size),
+        Answer::Refused(_) => answer,
+    }
+}
+
+// Records a write of `bytes` at `addr`, judged by nobody, and predicts the image with it. The
+// epoch's start stays where it is.
+pub fn tape_write(
+    state: State,
+    image: &[u8],
+    log: &mut [u8],
+    tape: &[u8],
+    start: usize,
+    predicted: &mut [u8],
+    addr: usize,
+    bytes: &[u8],
+) -> Written
+    ensures { λ r. ⌜ TapeWrites (now (image .entry)) state (now (log .entry)) (now (tape .entry)) start (now (predicted .entry)) addr (now (bytes .entry)) (r .answer) (r .state) (now (log .exit)) (now (predicted .exit)) ⌝ }
+{
+    let Outstanding::Bytes(used) = checked(state, image.len(), log.len()) else {
+        return Written {
+            answer: Answer::Refused(Refusal::BadState),
+            state,
+        };
+    };
+    if predicted.len() != image.len() {
+        return Written {
+            answer: Answer::Refused(Refusal::BadState),
+            state,
+        };
+    }
+    let answer = tape_room(image.len(), state, used, tape, start, addr, bytes.len());
+    match answer {
+        Answer::Done => {
+            let next = recorded(state, log, used, addr, bytes);
+            predict(next, image, log, tape, start, predicted);
+            Written {
+                answer,
+                state: next,
+            }
+        }
+        Answer::Refused(_) => Written { answer, state },
+    }
+}
