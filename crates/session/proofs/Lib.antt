@@ -4,3 +4,4 @@ pub mod Admitted
 pub mod Moves
 pub mod Steps
 pub mod Theorem
+pub mod TapeTheorem

@@ -86,7 +86,7 @@ module _ (sheet : List ℕ) where
               (sound-of-recorded (length (d .image)) (d .state) (length (d .log)) addr (length bytes) (w .sized) (w .facts) room);
         }
 
-    recorded-is-write : seen (desk (d .image) (appended (d .state) addr (length bytes)) (update-bytes (d .log) (together (log-records (d .state))) bytes)) ≡ write (seen d) addr bytes
+    pub recorded-is-write : seen (desk (d .image) (appended (d .state) addr (length bytes)) (update-bytes (d .log) (together (log-records (d .state))) bytes)) ≡ write (seen d) addr bytes
     recorded-is-write = view-of-recorded (d .image) (d .state) (d .log) addr bytes (omega (arith, w .sized, room .few)) fits
 
   pub moved-whole : {d : Desk} {e : Event} {d′ : Desk} → Whole d → Moved d e d′ → Whole d′
