@@ -10,11 +10,11 @@ use mathlib.Core.Path.{_≡_, refl, sym, ap, subst, subst⁻¹, _∙_}
 use mathlib.Core.Logic.{by-cases}
 use mathlib.Core.Bool.{Bool, true, false, cond, _&&_, and-true}
 use mathlib.Core.List.{List, [], _∷_}
-use lib.ListN.{length, getD, take, set, length-set}
-use lib.Seq.{ext-getD, getD-take, getD-set-same, getD-set-other, length-take-le, take-length}
+use lib.ListN.{length, getD, take, drop, set, length-set, length-drop}
+use lib.Seq.{ext-getD, getD-take, getD-drop, getD-set-same, getD-set-other, length-take-le, take-length}
 use Rattle.region.specs.Tab.{tab, inside}
 use Rattle.region.proofs.Tab.{length-tab, getD-tab, agree-tab, inside-in, inside-below, inside-above}
-use Rattle.region.specs.Pmemspec.{update-bytes}
+use Rattle.region.specs.Pmemspec.{update-bytes, extract-bytes}
 
 unfoldable pub lay : (ℕ → Bool) → List ℕ → ℕ → List ℕ → List ℕ
 lay keep s addr bytes = tab (λ i. cond (inside addr (length bytes) i && keep i) (getD bytes (i - addr) 0) (getD s i 0)) (length s)
@@ -134,3 +134,21 @@ update-whole s bytes e =
     (λ i h.
     let g : i < length s = subst (λ (n : ℕ). i < n) (length-lay (λ i. true) s 0 bytes) h in
     lay-in (λ i. true) s 0 bytes i g (omega arith) (omega arith) ∙ ap (λ (k : ℕ). getD bytes k 0) (sub-zero i))
+
+-- what was laid is read back
+pub update-reads-back : (s : List ℕ) (addr : ℕ) (bytes : List ℕ) → addr + length bytes ≤ length s → extract-bytes (update-bytes s addr bytes) addr (length bytes) ≡ bytes
+update-reads-back s addr bytes h =
+    ap (λ (t : List ℕ). extract-bytes t addr (length bytes)) (update-is-lay s addr bytes)
+    ∙ ext-getD 0 (extract-bytes laid addr (length bytes)) bytes whole
+    (λ i g.
+    let below : i < length bytes = subst (λ (n : ℕ). i < n) whole g in
+    getD-take (length bytes) (drop addr laid) i 0 below
+    ∙ getD-drop addr laid i 0
+    ∙ lay-in (λ i. true) s addr bytes (addr + i) (omega arith) (omega arith) (omega arith)
+    ∙ ap (λ (k : ℕ). getD bytes k 0) (add-sub-cancel-left addr i))
+  where
+    laid : List ℕ
+    laid = lay (λ i. true) s addr bytes
+
+    whole : length (extract-bytes laid addr (length bytes)) ≡ length bytes
+    whole = length-take-le (length bytes) (drop addr laid) (omega (arith, length-drop addr laid, length-lay (λ i. true) s addr bytes))

@@ -1,17 +1,17 @@
 -- Which of an epoch's tests gives its number, and what number 0 tells. Assumes nothing.
-use Prim.Native.Nat.{ℕ, _+_, _-_, _*_, _≤_, _<_}
+use Prim.Native.Nat.{ℕ, _+_, _-_, _≤_, _<_}
 use native.Mathlib.Decide.{decLt}
 use native.Mathlib.Omega.{arith}
-use mathlib.Core.Path.{_≡_, refl, sym, ap, _∙_}
+use mathlib.Core.Path.{_≡_, sym, ap, _∙_}
 use mathlib.Core.Logic.{by-cases}
-use mathlib.Core.Bool.{Bool, true, false, _&&_, _||_}
+use mathlib.Core.Bool.{Bool, true, false, _||_}
 use mathlib.Core.List.{List}
 use lib.Dec.{leb, ltb, eqb}
 use lib.ListN.{length}
 use borrow.Author.Tests.{le-leb, lt-leb, leb-true, lt-ltb, le-ltb, ltb-true, eq-eqb, ne-eqb}
 use Rattle.region.specs.Answer.{unless}
 use Rattle.region.proofs.Booleans.{cond-when, cond-unless, and-when, and-unless, both}
-use Rattle.replay.specs.Rows.{row-bytes, rows-filled}
+use Rattle.replay.specs.Rows.{rows-filled}
 use Rattle.writelog.proofs.WriteLaws.{passed}
 use Rattle.tape.specs.Epoch.{flush-header, cut-header, header, flush-foretold, header-right, row-place, epoch-there, epoch-number}
 

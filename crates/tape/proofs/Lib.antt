@@ -1,7 +1,13 @@
--- The laws of `tape`'s definitions.
+-- The laws of `tape`'s definitions, leaves first. The functions go by `EpochLaws`, `Recorded`, `PredictLaws`, `NumberLaws`, `PromiseLaws` and `RowsLaws`. Theory: `Foretells` is
+-- what a tape foretells of a log, step by step; `Futures` gives every future a tape; `Correspondence` is the theorem that pmem_async_equiv_t.rs sketches; `Steps` is what each call's
+-- promise does to view and prediction, for runs of calls.
 pub mod EpochLaws
 pub mod Recorded
 pub mod PredictLaws
 pub mod NumberLaws
 pub mod PromiseLaws
 pub mod RowsLaws
+pub mod Futures
+pub mod Foretells
+pub mod Correspondence
+pub mod Steps

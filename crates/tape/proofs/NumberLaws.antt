@@ -1,9 +1,8 @@
 -- Which of a tape call's tests gives its number, and what number 0 tells. Assumes nothing.
-use Prim.Native.Nat.{ℕ, zero, suc, _+_, _≤_, _<_}
+use Prim.Native.Nat.{ℕ, zero, suc, _+_}
 use native.Mathlib.Nat.{suc-ne-zero}
-use native.Mathlib.Omega.{arith}
-use mathlib.Core.Path.{_≡_, refl, sym, ap, _∙_}
-use mathlib.Core.Bool.{Bool, true, false, _&&_, Bool·beq, false≢true}
+use mathlib.Core.Path.{_≡_, refl, sym, _∙_}
+use mathlib.Core.Bool.{Bool, true, false, Bool·beq, false≢true}
 use mathlib.Core.List.{List}
 use lib.Dec.{eqb}
 use lib.ListN.{length}
@@ -28,10 +27,10 @@ use Rattle.tape.proofs.EpochLaws.{Epoch, epoch-facts}
 use Rattle.tape.proofs.Recorded.{sound-of-recorded}
 
 -- a number, or what comes after it
-pub go-on : {n : ℕ} (rest : ℕ) → n ≡ 0 → or-else n rest ≡ rest
+go-on : {n : ℕ} (rest : ℕ) → n ≡ 0 → or-else n rest ≡ rest
 go-on {n} rest e = sym (done-changed rest n e)
 
-pub stop : {n : ℕ} (why : Refusal) (rest : ℕ) → n ≡ refusal-number why → or-else n rest ≡ refusal-number why
+stop : {n : ℕ} (why : Refusal) (rest : ℕ) → n ≡ refusal-number why → or-else n rest ≡ refusal-number why
 stop {n} why rest e = sym (refused-left why rest n e) ∙ e
 
 both-none : (n rest : ℕ) → or-else n rest ≡ 0 → (n ≡ 0) × (rest ≡ 0)
@@ -62,6 +61,14 @@ module _ (L : ℕ) (st : State) (log-length predicted-length : ℕ) where
 
   -- a write
   module _ (tape : List ℕ) (start addr n : ℕ) where
+    pub tape-room-goes-on : room-number L st addr n ≡ 0 → tape-room-number L st tape start addr n ≡ epoch-number (size-to-chunks const-persistence-chunk-size L) (st .count + 1) tape start
+    unfolding tape-room-number
+    tape-room-goes-on e = go-on (epoch-number (size-to-chunks const-persistence-chunk-size L) (st .count + 1) tape start) e
+
+    pub tape-room-stops : (why : Refusal) → room-number L st addr n ≡ refusal-number why → tape-room-number L st tape start addr n ≡ refusal-number why
+    unfolding tape-room-number
+    tape-room-stops why e = stop why (epoch-number (size-to-chunks const-persistence-chunk-size L) (st .count + 1) tape start) e
+
     pub record TapeRoom : Type 0 where
       pub room : Room L st addr n
       pub epoch : Epoch (size-to-chunks const-persistence-chunk-size L) (st .count + 1) tape start

@@ -1,18 +1,13 @@
 -- The predicted image is what the log's own replay leaves over a copy of the image. Assumes nothing.
-use Prim.Native.Nat.{ℕ, _+_, _≤_, _<_}
-use native.Mathlib.Nat.{sub-zero, zero-add}
-use native.Mathlib.Omega.{arith}
+use Prim.Native.Nat.{ℕ, _+_, _≤_}
 use mathlib.Core.Path.{_≡_, sym, ap, ap₂, _∙_}
-use mathlib.Core.Bool.{Bool, true, false}
+use mathlib.Core.Bool.{true, false}
 use mathlib.Core.List.{List}
-use lib.ListN.{length, getD}
-use lib.Seq.{ext-getD}
+use lib.ListN.{length}
 use Rattle.region.specs.Limits.{const-persistence-chunk-size}
-use Rattle.region.specs.Pmemspec.{update-bytes}
 use Rattle.region.proofs.Booleans.{cond-when, cond-unless}
 use Rattle.replay.specs.AsyncSpec.{Write, AsyncView, size-to-chunks, committed, readable, flush-writes, flush-writes-selective, flush-selective}
 use Rattle.replay.specs.Rows.{rows-at}
-use Rattle.replay.proofs.Laid.{update-is-lay, lay-in}
 use Rattle.writelog.specs.State.{view}
 use Rattle.writelog.specs.Log.{last-writes}
 use Rattle.writelog.specs.declared.state.State.{State}
@@ -20,14 +15,7 @@ use Rattle.writelog.proofs.Walk.{all-writes}
 use Rattle.tape.specs.Epoch.{flush-foretold, epoch-rows}
 use Rattle.tape.specs.Foretold.{predicted-image}
 use Rattle.tape.specs.Ending.{predicted-now}
-use Rattle.tape.proofs.Recorded.{length-update, writes-counted}
-
--- bytes laid over as many others are a copy
-pub copied : (s bytes : List ℕ) → length s ≡ length bytes → update-bytes s 0 bytes ≡ bytes
-copied s bytes same =
-    let long : length (update-bytes s 0 bytes) ≡ length s = length-update s 0 bytes (omega arith) in
-    ext-getD 0 (update-bytes s 0 bytes) bytes (long ∙ same)
-    (λ i h. ap (λ (x : List ℕ). getD x i 0) (update-is-lay s 0 bytes) ∙ lay-in (λ i. true) s 0 bytes i (omega arith) (omega arith) (omega arith) ∙ ap (λ (j : ℕ). getD bytes j 0) (sub-zero i))
+use Rattle.tape.proofs.Recorded.{writes-counted}
 
 -- the two headers
 pub predicted-flush : (C : ℕ) (tape : List ℕ) (start : ℕ) (v : AsyncView) → flush-foretold tape start ≡ true → predicted-image C tape start v ≡ readable v

@@ -1,10 +1,8 @@
 -- The promise of a done tape call, and of a refused one. Assumes nothing.
 use Prim.Native.Nat.{ℕ}
 use mathlib.Core.Path.{_≡_, refl, sym, ap, _∙_}
-use mathlib.Core.Bool.{true, false}
 use mathlib.Core.List.{List, [], _∷_}
 use lib.ListN.{length}
-use Rattle.region.specs.Limits.{const-persistence-chunk-size}
 use Rattle.region.specs.Answer.{Report, answer-number, refusal-number, if-done}
 use Rattle.region.specs.declared.Refusal.{Refusal}
 use Rattle.region.specs.declared.Answer.{Answer}
@@ -12,9 +10,7 @@ use Rattle.region.specs.declared.Answer.the-variants.{Done, Refused}
 use Rattle.region.proofs.AnswerLaws.{done-changed, refused-left}
 use Rattle.replay.specs.AsyncSpec.{readable}
 use Rattle.writelog.specs.State.{view, appended, emptied}
-use Rattle.writelog.specs.Cut.{cut-report}
 use Rattle.writelog.specs.declared.state.State.{State}
-use Rattle.writelog.specs.declared.cut.CutAnswer.{CutAnswer}
 use Rattle.writelog.specs.declared.cut.CutAnswer.the-variants as cut-answer
 use Rattle.tape.specs.Write.{tape-write-number, log-with, predicted-with, TapeWrites}
 use Rattle.tape.specs.Ending.{next-start, predicted-now}

@@ -1,29 +1,28 @@
 -- A recorded write is one write more at the end of the log: the records, their bytes, and the view. Assumes nothing.
-use Prim.Native.Nat.{ℕ, zero, suc, _+_, _-_, _≤_, _<_}
-use native.Mathlib.Nat.{add-sub-cancel-left}
+use Prim.Native.Nat.{ℕ, suc, _+_, _≤_, _<_}
 use native.Mathlib.Numerals.{add-one}
 use native.Mathlib.Omega.{arith}
 use mathlib.Core.Path.{_≡_, refl, sym, ap, ap₂, _∙_}
-use mathlib.Core.Bool.{Bool, true, _&&_}
+use mathlib.Core.Bool.{true}
 use mathlib.Core.List.{List, [], _∷_, _++_}
 use lib.Dec.{leb}
-use lib.ListN.{length, getD, take, drop, set, length-set, length-drop, length-append, take-append-drop}
-use lib.Seq.{ext-getD, getD-take, getD-drop, length-take-le, take-suc-set, take-append-le, drop-append-le}
+use lib.ListN.{length, getD, take, drop, set, length-drop, take-append-drop}
+use lib.Seq.{ext-getD, getD-take, length-take-le, take-suc-set, take-append-le, drop-append-le}
 use borrow.Author.Tests.{le-leb}
 use Rattle.region.specs.Limits.{writes-limit}
 use Rattle.region.specs.Pmemspec.{update-bytes}
 use Rattle.region.proofs.Booleans.{both, both-true}
 use Rattle.replay.specs.AsyncSpec.{Write, write}
-use Rattle.replay.proofs.Laid.{lay, update-is-lay, length-lay, lay-in, lay-below}
+use Rattle.replay.proofs.Laid.{update-is-lay, length-lay, lay-below, update-reads-back}
 use Rattle.writelog.specs.State.{log-records, together, writes-of, records-inside, view, appended}
 use Rattle.writelog.specs.declared.state.Record.{Record}
 use Rattle.writelog.specs.declared.state.State.{State}
 use Rattle.writelog.proofs.Soundness.{Sound}
 use Rattle.writelog.proofs.WriteLaws.{Room}
 
--- the bytes of an image with a whole write laid over it: those before it, and its own
+-- the bytes before a write that is laid whole stay
 module _ (s : List ℕ) (addr : ℕ) (bytes : List ℕ) (fits : addr + length bytes ≤ length s) where
-  pub length-update : length (update-bytes s addr bytes) ≡ length s
+  length-update : length (update-bytes s addr bytes) ≡ length s
   length-update = ap length (update-is-lay s addr bytes) ∙ length-lay (λ i. true) s addr bytes
 
   take-of-update : take addr (update-bytes s addr bytes) ≡ take addr s
@@ -32,16 +31,6 @@ module _ (s : List ℕ) (addr : ℕ) (bytes : List ℕ) (fits : addr + length by
       ext-getD 0 (take addr (update-bytes s addr bytes)) (take addr s) (long ∙ sym (length-take-le addr s (omega arith)))
       (λ i h. let k : i < addr = omega arith in
       getD-take addr (update-bytes s addr bytes) i 0 k ∙ ap (λ (x : List ℕ). getD x i 0) (update-is-lay s addr bytes) ∙ lay-below (λ i. true) s addr bytes i (omega arith) k ∙ sym (getD-take addr s i 0 k))
-
-  written-of-update : take (length bytes) (drop addr (update-bytes s addr bytes)) ≡ bytes
-  written-of-update =
-      let long : length (take (length bytes) (drop addr (update-bytes s addr bytes))) ≡ length bytes
-      = length-take-le (length bytes) (drop addr (update-bytes s addr bytes)) (omega (arith, length-drop addr (update-bytes s addr bytes), length-update)) in
-      ext-getD 0 (take (length bytes) (drop addr (update-bytes s addr bytes))) bytes long
-      (λ i h. let k : i < length bytes = omega arith in
-      getD-take (length bytes) (drop addr (update-bytes s addr bytes)) i 0 k ∙ getD-drop addr (update-bytes s addr bytes) i 0
-      ∙ ap (λ (x : List ℕ). getD x (addr + i) 0) (update-is-lay s addr bytes) ∙ lay-in (λ i. true) s addr bytes (addr + i) (omega arith) (omega arith) (omega arith)
-      ∙ ap (λ (j : ℕ). getD bytes j 0) (add-sub-cancel-left addr i))
 
 -- one record more
 together-more : (rs : List Record) (r : Record) → together (rs ++ (r ∷ [])) ≡ together rs + r .len
@@ -95,7 +84,7 @@ view-of-recorded image st log addr bytes room fits =
     (ap (λ (rs : List Record). writes-of rs new) (records-of-appended st addr (length bytes) room)
     ∙ ap (writes-of (log-records st ++ (r ∷ []))) (sym (take-append-drop used new))
     ∙ writes-more (log-records st) r (take used new) (drop used new) (drop used log) (length-take-le used new (omega (arith, length-update log used bytes fits)))
-    ∙ ap₂ (λ (older : List ℕ) (own : List ℕ). writes-of (log-records st) (older ++ drop used log) ++ (record { addr = addr; bytes = own } ∷ [])) (take-of-update log used bytes fits) (written-of-update log used bytes fits)
+    ∙ ap₂ (λ (older : List ℕ) (own : List ℕ). writes-of (log-records st) (older ++ drop used log) ++ (record { addr = addr; bytes = own } ∷ [])) (take-of-update log used bytes fits) (update-reads-back log used bytes fits)
     ∙ ap (λ (l : List ℕ). writes-of (log-records st) l ++ (record { addr = addr; bytes = bytes } ∷ [])) (take-append-drop used log))
   where
     used : ℕ

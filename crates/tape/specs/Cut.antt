@@ -5,8 +5,7 @@ use mathlib.Core.Bool.{false}
 use mathlib.Core.List.{List, [], _∷_}
 use lib.ListN.{length}
 use Rattle.region.specs.Limits.{const-persistence-chunk-size}
-use Rattle.region.specs.Answer.{Report, if-done}
-use Rattle.replay.specs.AsyncSpec.{size-to-chunks}
+use Rattle.region.specs.Answer.{if-done}
 use Rattle.replay.specs.Kept.{kept}
 use Rattle.writelog.specs.State.{view, emptied}
 use Rattle.writelog.specs.Cut.{cut-report, chunks}

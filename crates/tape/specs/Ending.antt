@@ -2,7 +2,6 @@
 use Prim.Native.Nat.{ℕ}
 use mathlib.Core.Bool.{Bool, Bool·beq}
 use mathlib.Core.List.{List}
-use lib.ListN.{length}
 use Rattle.region.specs.Limits.{const-persistence-chunk-size}
 use Rattle.region.specs.Answer.{unless}
 use Rattle.replay.specs.AsyncSpec.{size-to-chunks}

@@ -3,6 +3,7 @@
 pub mod Epoch
 pub mod Foretold
 pub mod Predictable
+pub mod Future
 pub mod Write
 pub mod Ending
 pub mod Flush

@@ -1,18 +1,15 @@
-use Rattle.replay.proofs.Laid.{lay, update-is-lay, length-lay, lay-none, lay-kept}
-use Rattle.region.specs.Pmemspec.{update-bytes}
-use lib.Seq.{take-length}
-use mathlib.Core.List.{List}
-use lib.ListN.{length, getD, take, set, length-set}
-use borrow.Author.Needs.{needs}
-use mathlib.Core.Bool.{true}
-use mathlib.Core.Path.{_≡_, refl, sym, ap, _∙_}
+-- `replay::lay::lay` meets its contract. The loop's invariant: the first j bytes are laid. Assumes nothing.
+use Prim.Native.Nat.{ℕ, _+_, _-_, _≤_, _<_}
 use native.Mathlib.Omega.{arith}
 use native.Mathlib.Numerals.{add-one}
-use Prim.Native.Nat.{ℕ, _+_, _-_, _≤_, _<_}
+use mathlib.Core.List.{List}
+use mathlib.Core.Bool.{true}
+use mathlib.Core.Path.{_≡_, refl, sym, ap, _∙_}
+use lib.Seq.{take-length}
+use lib.ListN.{length, getD, take, set, length-set}
+use Rattle.replay.proofs.Laid.{lay, update-is-lay, lay-none, lay-kept}
 use Rattle.replay.proofs.lay.lay.Statement.{statement}
 use Rattle.replay.proofs.lay.lay.Tie as tie
-use Rattle.replay.proofs.lay.lay.Reads as reads
-use Rattle.replay.proofs.lay.lay.Lts as lts
 
 abbrev Inv-loop : tie.InvT-loop
 Inv-loop work₀ addr bytes j₀ work j = (j ≤ length bytes) × (length work ≡ length work₀) × (work ≡ lay (λ i. true) work₀ addr (take j bytes))
@@ -20,44 +17,22 @@ Inv-loop work₀ addr bytes j₀ work j = (j ≤ length bytes) × (length work �
 abbrev μ-loop : tie.MeasureT-loop
 μ-loop work₀ addr bytes j₀ work j = length bytes - j
 
--- src/lay.rt:18:5
 loop-holds : tie.Need-loop-holds Inv-loop μ-loop
 loop-holds c = (omega arith, refl, sym (lay-none (λ i. true) (c .args .work .now) (c .args .addr)))
 
--- src/lay.rt:19:26
-shared-slice-read-work : tie.Need-shared-slice-read-work Inv-loop μ-loop
-shared-slice-read-work c = omega arith
-
--- src/lay.rt:19:14
-add-work : tie.Need-add-work Inv-loop μ-loop
-add-work c = omega arith
-
--- src/lay.rt:19:9
-slice-write-work : tie.Need-slice-write-work Inv-loop μ-loop
-slice-write-work c = omega arith
-
--- src/lay.rt:20:9
-add-j : tie.Need-add-j Inv-loop μ-loop
-add-j c = omega arith
-
--- src/lay.rt:18:5
-loop-less : tie.Need-loop-less Inv-loop μ-loop
-loop-less c = omega arith
-
--- src/lay.rt:18:5
 loop-again : tie.Need-loop-again Inv-loop μ-loop
-loop-again c = let at-loop = c .before .before .loop in
+loop-again c =
+    let at-loop = c .before .before .loop in
     let a = c .before .before .before .args in
     let fits : a .addr + at-loop .j < length (a .work .now) = omega arith in
     (omega arith, length-set (at-loop .work) (a .addr + at-loop .j) _ ∙ at-loop .inv .1, rw add-one (ap (λ (w : List ℕ). set w (a .addr + at-loop .j) (getD (a .bytes .now) (at-loop .j) 0)) (at-loop .inv .2) ∙ sym (lay-kept (λ i. true) (a .work .now) (a .addr) (a .bytes .now) (at-loop .j) fits (c .before .loop-test .taken) refl)))
 
--- src/lay.rt:13:1
 same-length : tie.Need-same-length Inv-loop μ-loop
 same-length c = c .before .loop .inv .1
 
--- src/lay.rt:13:1
 returns : tie.Need-returns Inv-loop μ-loop
-returns c = let a = c .before .before .args in
+returns c =
+    let a = c .before .before .args in
     let done : c .before .loop .j ≡ length (a .bytes .now) = omega arith in
     c .before .loop .inv .2 ∙ ap (λ (n : ℕ). lay (λ i. true) (a .work .now) (a .addr) (take n (a .bytes .now))) done ∙ ap (lay (λ i. true) (a .work .now) (a .addr)) (take-length (a .bytes .now)) ∙ sym (update-is-lay (a .work .now) (a .addr) (a .bytes .now))
 
@@ -68,11 +43,11 @@ lay-spec =
     Inv-loop
     μ-loop
     loop-holds
-    shared-slice-read-work
-    add-work
-    slice-write-work
-    add-j
-    loop-less
+    (λ c. omega arith)
+    (λ c. omega arith)
+    (λ c. omega arith)
+    (λ c. omega arith)
+    (λ c. omega arith)
     loop-again
     same-length
     returns)

@@ -1,18 +1,15 @@
-use Rattle.replay.proofs.ByteBits.{set-bits-add, set-bits-le, run-in-row}
-use Rattle.replay.specs.Rows.{row-bit, set-bits}
-use borrow.Author.Needs.{needs}
-use lib.ListN.{length}
-use mathlib.Core.Bool.{Bool}
-use mathlib.Core.Logic.{⊎-elim}
-use mathlib.Core.Path.{_≡_, refl, sym, ap, subst, subst⁻¹, _∙_}
+-- `replay::rows::set_bits` meets its contract. The loop's invariant: what is counted, and the set bits of what is left, are the set bits of the whole
+-- run. A turn stays in one byte. Assumes nothing.
+use Prim.Native.Nat.{ℕ, _+_, _-_, _%_, _≤_, _<_}
 use native.Mathlib.Omega.{arith}
 use native.Mathlib.Nat.{add-zero, zero-add, add-sub-of-le}
-use Prim.Native.Nat.{ℕ, _+_, _-_, _/_, _%_, _^_, _≤_, _<_}
+use mathlib.Core.Bool.{Bool}
+use mathlib.Core.Logic.{⊎-elim}
+use mathlib.Core.Path.{_≡_, refl, sym, ap, _∙_}
+use Rattle.replay.specs.Rows.{row-bit, set-bits}
+use Rattle.replay.proofs.ByteBits.{set-bits-add, set-bits-le, run-in-row}
 use Rattle.replay.proofs.rows.set_bits.Statement.{statement}
 use Rattle.replay.proofs.rows.set_bits.Tie as tie
-use Rattle.replay.proofs.rows.set_bits.Reads as reads
-use Rattle.replay.proofs.rows.set_bits.Lts as lts
-use Rattle.replay.proofs.rows.ones_among.Reads as ones-among-reads
 
 abbrev Inv-loop : tie.InvT-loop
 Inv-loop rows at from n sum₀ c₀ left₀ sum c left = (c + left ≡ from + n) × (sum + set-bits (row-bit rows at) c left ≡ set-bits (row-bit rows at) from n)
@@ -36,52 +33,40 @@ counted c =
     ∙ set-bits-add b (at-loop .c) here (at-loop .left - here)
     ∙ ap (λ (x : ℕ). x + set-bits b (at-loop .c + here) (at-loop .left - here)) (run-in-row (a .rows .now) (a .at) (at-loop .c) here (t .2) ∙ sym (c .ones-among .ensures))
 
--- src/rows.rt:48:5
 loop-holds : tie.Need-loop-holds Inv-loop μ-loop
 loop-holds c = (refl, zero-add _)
 
--- src/rows.rt:49:20
-sub-room : tie.Need-sub-room Inv-loop μ-loop
-sub-room c = omega arith
-
--- src/rows.rt:51:32
 add-ones-among : tie.Need-add-ones-among Inv-loop μ-loop
 add-ones-among c = omega (arith, taken c)
 
--- src/rows.rt:51:27
 shared-slice-read-ones-among : tie.Need-shared-slice-read-ones-among Inv-loop μ-loop
 shared-slice-read-ones-among c = omega (arith, taken (c .before))
 
--- src/rows.rt:51:16
 ones-among-requires : tie.Need-ones-among-requires Inv-loop μ-loop
 ones-among-requires c κs = taken (c .before) .2
 
--- src/rows.rt:51:9
 add-sum : tie.Need-add-sum Inv-loop μ-loop
-add-sum c = let at-loop = c .before .before .before .before .loop in
+add-sum c =
+    let at-loop = c .before .before .before .before .loop in
     let a = c .before .before .before .before .before .before .args in
     omega (arith, counted c, at-loop .inv .1, set-bits-le (row-bit (a .rows .now) (a .at)) (a .from) (a .n))
 
--- src/rows.rt:52:9
 add-c : tie.Need-add-c Inv-loop μ-loop
 add-c c = omega (arith, taken (c .before .before .before))
 
--- src/rows.rt:53:9
 sub-left : tie.Need-sub-left Inv-loop μ-loop
 sub-left c = taken (c .before .before .before) .1
 
--- src/rows.rt:48:5
 loop-less : tie.Need-loop-less Inv-loop μ-loop
 loop-less c = omega (arith, taken (c .before .before .before))
 
--- src/rows.rt:48:5
 loop-again : tie.Need-loop-again Inv-loop μ-loop
 loop-again c = (omega (arith, taken (c .before .before .before)), omega (arith, counted (c .before), c .before .before .before .before .before .loop .inv .1))
 
--- src/rows.rt:41:1
 returns : tie.Need-returns Inv-loop μ-loop
 unfolding set-bits
-returns c = let at-loop = c .before .loop in
+returns c =
+    let at-loop = c .before .loop in
     let a = c .before .before .before .args in
     let b : ℕ → Bool = row-bit (a .rows .now) (a .at) in
     let none : at-loop .left ≡ 0 = omega arith in
@@ -94,7 +79,7 @@ set-bits-spec =
     Inv-loop
     μ-loop
     loop-holds
-    sub-room
+    (λ c. omega arith)
     add-ones-among
     shared-slice-read-ones-among
     ones-among-requires

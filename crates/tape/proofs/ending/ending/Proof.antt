@@ -1,101 +1,83 @@
-use Rattle.tape.proofs.NumberLaws.{unsound, missized, tape-sound-there, ending-unsound, ending-bad-epoch, ending-not-foretold, ending-foretold}
-use Rattle.tape.proofs.EpochLaws.{epoch-facts}
-use Rattle.tape.specs.Write.{tape-sound}
-use Rattle.tape.specs.Epoch.{epoch-number}
-use Rattle.writelog.proofs.Soundness.{Told, told-bytes, told-unsound}
-use Rattle.replay.specs.AsyncSpec.{size-to-chunks}
-use Rattle.region.specs.Answer.{answer-number}
+-- `tape::ending::ending` answers with the ending's number: refusal 1, then the epoch's 10 and 9, then 11 where the header foretells the other end.
+-- Assumes nothing.
 use mathlib.Core.Path.{_≡_, sym, ap, _∙_}
 use mathlib.Core.Bool.{Bool, true, Bool·beq}
 use borrow.Author.Tests.{not-true, not-false}
-use Rattle.tape.specs.Ending.{as-foretold}
 use borrow.Author.Needs.{needs}
+use Rattle.region.specs.Answer.{answer-number}
+use Rattle.replay.specs.AsyncSpec.{size-to-chunks}
+use Rattle.writelog.proofs.Soundness.{Told, told-bytes, told-unsound}
+use Rattle.tape.specs.Write.{tape-sound}
+use Rattle.tape.specs.Epoch.{epoch-number}
+use Rattle.tape.specs.Ending.{as-foretold}
+use Rattle.tape.proofs.NumberLaws.{unsound, missized, tape-sound-there, ending-unsound, ending-bad-epoch, ending-not-foretold, ending-foretold}
+use Rattle.tape.proofs.EpochLaws.{epoch-facts}
 use Rattle.tape.proofs.ending.ending.Statement.{statement}
 use Rattle.tape.proofs.ending.ending.Tie as tie
-use Rattle.tape.proofs.ending.ending.Reads as reads
-use Rattle.tape.proofs.ending.ending.Lts as lts
-use Rattle.tape.proofs.epoch.epoch.Reads as epoch-reads
-use Rattle.tape.proofs.epoch.flush_foretold.Reads as flush-foretold-reads
-use Rattle.writelog.proofs.state.checked.Reads as checked-reads
 
--- src/ending.rt:32:33
-checked-requires : tie.Need-checked-requires
-checked-requires c κs = search needs
-
-enum-told : tie.Need-enum-told
-enum-told c = search needs
-
--- src/ending.rt:33:32
-enum-told-2 : tie.Need-enum-told-2
-enum-told-2 c = search needs
+-- the function's entry, from where the test of the state was passed
+abbrev start : tie.After-enum-told → tie.Start
+start c = c .before .before .before .before
 
 -- what the test of the state told
-told-here : (c : tie.After-enum-told) → Told (c .before .before .before .before .args .size) (c .before .before .before .before .args .state) (c .before .before .before .before .args .log) (c .enum-told .given .0 .0)
-told-here c = told-bytes _ (c .before .before .before .before .args .state) _ (c .before .before .checked .ensures .0) (c .enum-told .given .1)
+told-here : (c : tie.After-enum-told) → Told (start c .args .size) (start c .args .state) (start c .args .log) (c .enum-told .given .0 .0)
+told-here c = told-bytes _ (start c .args .state) _ (c .before .before .checked .ensures .0) (c .enum-told .given .1)
 
 -- past the two tests refusal 1 is out
-sound-here : (c : tie.Else1) → tape-sound (c .before .before .before .before .before .args .size) (c .before .before .before .before .before .args .state) (c .before .before .before .before .before .args .log) (c .before .before .before .before .before .args .predicted) ≡ true
+sound-here : (c : tie.Else1) → tape-sound (start (c .before) .args .size) (start (c .before) .args .state) (start (c .before) .args .log) (start (c .before) .args .predicted) ≡ true
 sound-here c =
-    let a = c .before .before .before .before .before .args in
+    let a = start (c .before) .args in
     tape-sound-there (a .size) (a .state) (a .log) (a .predicted) (told-here (c .before) .good) (c .if1 .left)
 
 -- what the header foretells
-told-is : (c : tie.After-flush-foretold) → as-foretold (c .before .before .before .before .before .before .before .before .before .args .flushing) (c .before .before .before .before .before .before .before .before .before .args .tape .now) (c .before .before .before .before .before .before .before .before .before .args .start) ≡ Bool·beq (c .flush-foretold .result) (c .before .before .before .before .before .before .before .before .before .args .flushing)
-told-is c = ap (λ (t : Bool). Bool·beq t (c .before .before .before .before .before .before .before .before .before .args .flushing)) (sym (c .flush-foretold .ensures))
+told-is : (c : tie.After-flush-foretold) → as-foretold (start (c .before .before .before .before .before) .args .flushing) (start (c .before .before .before .before .before) .args .tape .now) (start (c .before .before .before .before .before) .args .start) ≡ Bool·beq (c .flush-foretold .result) (start (c .before .before .before .before .before) .args .flushing)
+told-is c = ap (λ (t : Bool). Bool·beq t (start (c .before .before .before .before .before) .args .flushing)) (sym (c .flush-foretold .ensures))
 
 -- and past the epoch's, 10 and 9
-epoch-none : (c : tie.After-enum-told3) → epoch-number (size-to-chunks 8 (c .before .before .before .before .before .before .before .before .args .size)) (c .before .before .before .before .before .before .before .before .args .state .count) (c .before .before .before .before .before .before .before .before .args .tape .now) (c .before .before .before .before .before .before .before .before .args .start) ≡ 0
+epoch-none : (c : tie.After-enum-told3) → epoch-number (size-to-chunks 8 (start (c .before .before .before .before) .args .size)) (start (c .before .before .before .before) .args .state .count) (start (c .before .before .before .before) .args .tape .now) (start (c .before .before .before .before) .args .start) ≡ 0
 epoch-none c = sym (c .before .before .epoch .ensures) ∙ ap answer-number (c .enum-told3 .given .1)
 
--- src/ending.rt:33:9
 returns : tie.Need-returns
-returns c = let checked = c .before .before in
+returns c =
+    let checked = c .before .before in
     let a = checked .before .before .args in
     (sym (ending-unsound (a .size) (a .state) (a .log) (a .predicted) (a .flushing) (a .tape .now) (a .start) (unsound (a .size) (a .state) (a .log) (a .predicted) (told-unsound (a .size) (a .state) (a .log) (checked .checked .ensures .0) (c .enum-told2 .given .1)))), checked .checked .ensures .1)
 
--- src/ending.rt:36:9
 returns-2 : tie.Need-returns-2
-returns-2 c = let checked = c .before .before .before in
+returns-2 c =
+    let checked = c .before .before .before in
     let a = checked .before .before .args in
     (sym (ending-unsound (a .size) (a .state) (a .log) (a .predicted) (a .flushing) (a .tape .now) (a .start) (missized (a .size) (a .state) (a .log) (a .predicted) (told-here (c .before) .good) (c .if1 .taken))), checked .checked .ensures .1)
 
--- src/ending.rt:38:9
 epoch-requires : tie.Need-epoch-requires
-epoch-requires c κs = let told = told-here (c .before) in
+epoch-requires c κs =
+    let told = told-here (c .before) in
     (told .facts .few, told .facts .short)
 
--- src/ending.rt:41:16
-enum-told-3 : tie.Need-enum-told-3
-enum-told-3 c = search needs
-
--- src/ending.rt:41:16
 flush-foretold-requires : tie.Need-flush-foretold-requires
-flush-foretold-requires c κs = let a = c .before .before .before .before .before .before .before .before .args in
+flush-foretold-requires c κs =
+    let a = c .before .before .before .before .before .before .before .before .args in
     epoch-facts (size-to-chunks 8 (a .size)) (a .state .count) (a .tape .now) (a .start) (epoch-none c) .there .begins
 
--- src/ending.rt:42:17
 returns-3 : tie.Need-returns-3
-returns-3 c = let told3 = c .before .before in
+returns-3 c =
+    let told3 = c .before .before in
     let else1 = told3 .before .before .before in
     let checked = else1 .before .before .before in
     let a = checked .before .before .args in
     (sym (ending-not-foretold (a .size) (a .state) (a .log) (a .predicted) (a .flushing) (a .tape .now) (a .start) (sound-here else1) (epoch-none told3) (told-is (c .before) ∙ not-true _ (c .if2 .taken))), checked .checked .ensures .1)
 
--- src/ending.rt:46:31
-enum-told-4 : tie.Need-enum-told-4
-enum-told-4 c = search needs
-
--- src/ending.rt:21:1
 returns-4 : tie.Need-returns-4
-returns-4 c = let told3 = c .before .before in
+returns-4 c =
+    let told3 = c .before .before in
     let else1 = told3 .before .before .before in
     let checked = else1 .before .before .before in
     let a = checked .before .before .args in
     (sym (ending-foretold (a .size) (a .state) (a .log) (a .predicted) (a .flushing) (a .tape .now) (a .start) (sound-here else1) (epoch-none told3) (told-is (c .before) ∙ not-false _ (c .if2 .left))), checked .checked .ensures .1)
 
--- src/ending.rt:21:1
 returns-5 : tie.Need-returns-5
-returns-5 c = let epoch = c .before .before in
+returns-5 c =
+    let epoch = c .before .before in
     let else1 = epoch .before in
     let checked = else1 .before .before .before in
     let a = checked .before .before .args in
@@ -107,15 +89,15 @@ pub ending-spec : {M : Type 1} → statement M
 ending-spec =
     tie.close
     (tie.spec
-    checked-requires
-    enum-told
-    enum-told-2
+    (λ c κs. search needs)
+    (λ c. search needs)
+    (λ c. search needs)
     returns
     returns-2
     epoch-requires
-    enum-told-3
+    (λ c. search needs)
     flush-foretold-requires
     returns-3
-    enum-told-4
+    (λ c. search needs)
     returns-4
     returns-5)

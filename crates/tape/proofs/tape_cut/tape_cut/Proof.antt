@@ -1,84 +1,108 @@
+-- `tape::tape_cut::tape_cut` meets its promise: the predicted image becomes the image, and the kept pieces are counted by the rows where they lie on the tape.
+-- Assumes nothing.
+use Prim.Native.Nat.{ℕ, _+_, _-_}
+use native.Mathlib.Omega.{arith}
+use mathlib.Core.List.{List}
+use mathlib.Core.Bool.{false}
+use mathlib.Core.Path.{_≡_, sym, ap, _∙_}
+use lib.Seq.{take-all}
+use lib.ListN.{length, take, drop, length-drop}
 use borrow.Author.Needs.{needs}
+use Rattle.region.specs.Answer.{answer-number}
+use Rattle.replay.specs.Rows.{rows-at}
+use Rattle.replay.specs.AsyncSpec.{size-to-chunks}
+use Rattle.writelog.proofs.KeptLaws.{kept-by-records}
+use Rattle.writelog.specs.Log.{kept-records}
+use Rattle.writelog.specs.State.{log-records}
+use Rattle.tape.specs.Epoch.{epoch-rows}
+use Rattle.tape.specs.Cut.{tape-cut-number}
+use Rattle.tape.proofs.PromiseLaws.{tape-cuts-done, tape-cuts-refused}
+use Rattle.tape.proofs.NumberLaws.{Ending, ending-done, predictable-now}
+use Rattle.tape.proofs.RowsLaws.{rows-of-part}
 use Rattle.tape.proofs.tape_cut.tape_cut.Statement.{statement}
 use Rattle.tape.proofs.tape_cut.tape_cut.Tie as tie
-use Rattle.tape.proofs.tape_cut.tape_cut.Reads as reads
-use Rattle.tape.proofs.tape_cut.tape_cut.Lts as lts
-use Rattle.tape.proofs.ending.ended.Reads as ended-reads
-use Rattle.tape.proofs.ending.ending.Reads as ending-reads
-use Rattle.writelog.proofs.flush.emptied.Reads as emptied-reads
-use Rattle.writelog.proofs.log.kept.Reads as kept-reads
 
--- src/tape_cut.rt:29:9
-ending-requires : tie.Need-ending-requires
-ending-requires c κs = search needs
+-- the function's entry, from where the ending was passed
+abbrev start : tie.After-enum-told → tie.Start
+start c = c .before .before .before .before .before .before .before
 
--- src/tape_cut.rt:40:24
-enum-told : tie.Need-enum-told
-enum-told c = search needs
+-- the epoch may end by a cut, where its test says so
+cut-none : (c : tie.After-enum-told) → tape-cut-number (start c .args .image .now) (start c .args .state) (start c .args .log .now) (start c .args .tape .now) (start c .args .start) (start c .args .predicted .now) ≡ 0
+cut-none c = sym (c .before .before .ending .ensures .0) ∙ ap answer-number (c .enum-told .given .1)
 
--- src/tape_cut.rt:40:24
+ending-here : (c : tie.After-enum-told) → Ending (length (start c .args .image .now)) (start c .args .state) (length (start c .args .log .now)) (length (start c .args .predicted .now)) false (start c .args .tape .now) (start c .args .start)
+ending-here c =
+    let a = start c .args in
+    ending-done (length (a .image .now)) (a .state) (length (a .log .now)) (length (a .predicted .now)) false (a .tape .now) (a .start) (cut-none c)
+
+-- the part of the tape from a place on
+part-is : (tape : List ℕ) (at : ℕ) → take (length tape - at) (drop at tape) ≡ drop at tape
+part-is tape at = take-all (length tape - at) (drop at tape) (omega (arith, length-drop at tape))
+
 add-rows : tie.Need-add-rows
-add-rows c = ?
+add-rows c =
+    let e = ending-here c in
+    omega (arith, e .epoch .there .begins)
 
--- src/tape_cut.rt:41:51
 sub-kept : tie.Need-sub-kept
-sub-kept c = ?
+sub-kept c =
+    let e = ending-here c in
+    omega (arith, e .epoch .there .begins)
 
--- src/tape_cut.rt:41:51
 part-kept-start : tie.Need-part-kept-start
-part-kept-start c = ?
+part-kept-start c =
+    let e = ending-here c in
+    omega (arith, e .epoch .there .begins)
 
--- src/tape_cut.rt:41:51
-part-kept-end : tie.Need-part-kept-end
-part-kept-end c = search needs
-
--- src/tape_cut.rt:41:17
 kept-requires : tie.Need-kept-requires
-kept-requires c κs = ?
+kept-requires c κs =
+    let told = c .before in
+    let a = start told .args in
+    let e = ending-here told in
+    record { sized = told .before .before .ending .ensures .1; short = e .facts .short; few = e .facts .few; inside = e .facts .inside; room = e .facts .room; right = omega (arith, e .epoch .there .fits, ap length (part-is (a .tape .now) (a .start + 1)), length-drop (a .start + 1) (a .tape .now)) }
 
--- src/tape_cut.rt:42:17
 ended-requires : tie.Need-ended-requires
-ended-requires c κs = ?
+ended-requires c κs =
+    let told = c .before .before .before .before in
+    let a = start told .args in
+    predictable-now (length (a .image .now)) (a .state) (length (a .log .now)) (length (a .predicted .now)) false (a .tape .now) (a .start) (told .before .before .ending .ensures .1) (ending-here told)
 
--- src/tape_cut.rt:45:24
-emptied-requires : tie.Need-emptied-requires
-emptied-requires c κs = search needs
-
--- src/tape_cut.rt:49:25
-enum-known-answer : tie.Need-enum-known-answer
-enum-known-answer c = search needs
-
--- src/tape_cut.rt:19:1
-same-length : tie.Need-same-length
-same-length c = search needs
-
--- src/tape_cut.rt:19:1
-same-length-2 : tie.Need-same-length-2
-same-length-2 c = search needs
-
--- src/tape_cut.rt:19:1
 returns : tie.Need-returns
-returns c = ?
+returns c =
+    let ended = c .before .before .before .before .before in
+    let kept = ended .before .before .before in
+    let told = kept .before .before in
+    let a = start told .args in
+    let facts = ending-here told .facts in
+    let K = size-to-chunks 8 (length (a .image .now)) in
+    tape-cuts-done (a .image .now) (a .state) (a .log .now) (a .tape .now) (a .start) (a .predicted .now) (cut-none told)
+    (kept .kept .ensures
+    ∙ ap (λ (t : List ℕ). kept-records 8 (log-records (a .state)) (rows-at K (a .state .count) t 0)) (part-is (a .tape .now) (a .start + 1))
+    ∙ ap (kept-records 8 (log-records (a .state))) (rows-of-part K (a .tape .now) (a .start + 1) (a .state .count))
+    ∙ sym (kept-by-records 8 (log-records (a .state)) (a .log .now) (epoch-rows K (a .state .count) (a .tape .now) (a .start)) (omega (arith, facts .room, facts .buffer))))
+    (c .emptied .ensures) (ended .ended .ensures .0) (ended .ended .ensures .1) (ended .ended .ensures .2)
 
--- src/tape_cut.rt:19:1
 returns-2 : tie.Need-returns-2
-returns-2 c = ?
+returns-2 c =
+    let ending = c .before .before .before in
+    let a = ending .before .before .before .before .before .args in
+    tape-cuts-refused (a .image .now) (a .state) (a .log .now) (a .tape .now) (a .start) (a .predicted .now) (c .before .answer .given .0 .0) (sym (ending .ending .ensures .0) ∙ ap answer-number (c .before .answer .given .1))
 
 pub tape-cut-spec : {M : Type 1} → statement M
 tape-cut-spec =
     tie.close
     (tie.spec
-    ending-requires
-    enum-told
+    (λ c κs. search needs)
+    (λ c. search needs)
     add-rows
     sub-kept
     part-kept-start
-    part-kept-end
+    (λ c. search needs)
     kept-requires
     ended-requires
-    emptied-requires
-    enum-known-answer
-    same-length
-    same-length-2
+    (λ c κs. search needs)
+    (λ c. search needs)
+    (λ c. search needs)
+    (λ c. search needs)
     returns
     returns-2)

@@ -1,84 +1,121 @@
+-- `tape::tape_write::tape_write` meets its promise: where there is room, and a right row for it, the write is recorded as the plain write does it and the image is predicted
+-- with it in the log. Assumes nothing.
+use Prim.Native.Nat.{ℕ}
+use native.Mathlib.Omega.{arith}
+use mathlib.Core.List.{List}
+use mathlib.Core.Bool.{true}
+use mathlib.Core.Path.{_≡_, refl, sym, ap, ap₂, subst⁻¹, _∙_}
+use lib.ListN.{length}
 use borrow.Author.Needs.{needs}
+use Rattle.region.specs.declared.Refusal.the-variants.{BadState}
+use Rattle.region.specs.Pmemspec.{update-bytes}
+use Rattle.region.specs.Answer.{answer-number}
+use Rattle.writelog.proofs.Soundness.{Told, told-bytes, told-unsound}
+use Rattle.writelog.specs.declared.state.State.{State}
+use Rattle.writelog.specs.State.{appended}
+use Rattle.tape.specs.Write.{tape-sound, tape-write-number}
+use Rattle.tape.specs.Predictable.{Predictable}
+use Rattle.tape.specs.Ending.{predicted-now}
+use Rattle.tape.proofs.PromiseLaws.{tape-writes-done, tape-writes-refused}
+use Rattle.tape.proofs.NumberLaws.{unsound, missized, tape-sound-there, TapeRoom, tape-room-done, predictable-with, tape-write-unsound, tape-write-sound}
 use Rattle.tape.proofs.tape_write.tape_write.Statement.{statement}
 use Rattle.tape.proofs.tape_write.tape_write.Tie as tie
-use Rattle.tape.proofs.tape_write.tape_write.Reads as reads
-use Rattle.tape.proofs.tape_write.tape_write.Lts as lts
-use Rattle.tape.proofs.predict.predict.Reads as predict-reads
-use Rattle.tape.proofs.tape_write.tape_room.Reads as tape-room-reads
-use Rattle.writelog.proofs.state.checked.Reads as checked-reads
-use Rattle.writelog.proofs.write.recorded.Reads as recorded-reads
 
--- src/tape_write.rt:54:36
-checked-requires : tie.Need-checked-requires
-checked-requires c κs = search needs
+-- the function's entry, from where the test of the state was passed
+abbrev start : tie.After-known-told → tie.Start
+start c = c .before .before .before .before .before .before .before .before .before
 
--- src/tape_write.rt:54:28
-enum-known-used : tie.Need-enum-known-used
-enum-known-used c = search needs
+-- what the test of the state told
+told-here : (c : tie.After-known-told) → Told (length (start c .args .image .now)) (start c .args .state) (length (start c .args .log .now)) (c .before .used .given .0 .0)
+told-here c = told-bytes _ (start c .args .state) _ (c .before .before .before .checked .ensures .0) (c .before .used .given .1)
 
--- src/tape_write.rt:56:37
-enum-told : tie.Need-enum-told
-enum-told c = search needs
+-- past the two tests refusal 1 is out
+sound-here : (c : tie.Else1) → tape-sound (length (start (c .before) .args .image .now)) (start (c .before) .args .state) (length (start (c .before) .args .log .now)) (length (start (c .before) .args .predicted .now)) ≡ true
+sound-here c =
+    let a = start (c .before) .args in
+    tape-sound-there (length (a .image .now)) (a .state) (length (a .log .now)) (length (a .predicted .now)) (told-here (c .before) .good) (c .if1 .left)
 
--- src/tape_write.rt:55:9
+-- so the answer's number is the tape's room
+number-here : (c : tie.After-tape-room) → answer-number (c .tape-room .result) ≡ tape-write-number (start (c .before .before) .args .image .now) (start (c .before .before) .args .state) (start (c .before .before) .args .log .now) (start (c .before .before) .args .tape .now) (start (c .before .before) .args .start) (start (c .before .before) .args .predicted .now) (start (c .before .before) .args .addr) (length (start (c .before .before) .args .bytes .now))
+number-here c =
+    let a = start (c .before .before) .args in
+    c .tape-room .ensures ∙ sym (tape-write-sound (a .image .now) (a .state) (a .log .now) (a .tape .now) (a .start) (a .predicted .now) (a .addr) (length (a .bytes .now)) (sound-here (c .before)))
+
+-- there is room, where its test says so
+room-here : (c : tie.After-enum-told2) → TapeRoom (length (start (c .before .before .before .before) .args .image .now)) (start (c .before .before .before .before) .args .state) (length (start (c .before .before .before .before) .args .log .now)) (length (start (c .before .before .before .before) .args .predicted .now)) (start (c .before .before .before .before) .args .tape .now) (start (c .before .before .before .before) .args .start) (start (c .before .before .before .before) .args .addr) (length (start (c .before .before .before .before) .args .bytes .now))
+room-here c =
+    let a = start (c .before .before .before .before) .args in
+    tape-room-done (length (a .image .now)) (a .state) (length (a .log .now)) (length (a .predicted .now)) (a .tape .now) (a .start) (a .addr) (length (a .bytes .now)) (sym (c .before .before .tape-room .ensures) ∙ ap answer-number (c .enum-told2 .given .1))
+
 returns : tie.Need-returns
-returns c = ?
+returns c =
+    let checked = c .before .before in
+    let a = checked .before .before .before .before .before .before .args in
+    let bad = unsound (length (a .image .now)) (a .state) (length (a .log .now)) (length (a .predicted .now)) (told-unsound _ (a .state) _ (checked .checked .ensures .0) (c .enum-told .given .1)) in
+    tape-writes-refused (a .image .now) (a .state) (a .log .now) (a .tape .now) (a .start) (a .predicted .now) (a .addr) (a .bytes .now) (sym (tape-write-unsound (a .image .now) (a .state) (a .log .now) (a .tape .now) (a .start) (a .predicted .now) (a .addr) (length (a .bytes .now)) bad)) BadState refl
 
--- src/tape_write.rt:61:9
 returns-2 : tie.Need-returns-2
-returns-2 c = ?
+returns-2 c =
+    let a = start (c .before) .args in
+    let bad = missized (length (a .image .now)) (a .state) (length (a .log .now)) (length (a .predicted .now)) (told-here (c .before) .good) (c .if1 .taken) in
+    tape-writes-refused (a .image .now) (a .state) (a .log .now) (a .tape .now) (a .start) (a .predicted .now) (a .addr) (a .bytes .now) (sym (tape-write-unsound (a .image .now) (a .state) (a .log .now) (a .tape .now) (a .start) (a .predicted .now) (a .addr) (length (a .bytes .now)) bad)) BadState refl
 
--- src/tape_write.rt:66:9
 tape-room-requires : tie.Need-tape-room-requires
-tape-room-requires c κs = ?
+tape-room-requires c κs =
+    let told = told-here (c .before) in
+    (told .counted, omega (arith, told .counted, told .facts .room), told .facts .short)
 
--- src/tape_write.rt:69:40
-enum-told-2 : tie.Need-enum-told-2
-enum-told-2 c = search needs
-
--- src/tape_write.rt:69:17
 recorded-requires : tie.Need-recorded-requires
-recorded-requires c κs = ?
+recorded-requires c κs =
+    let else1 = c .before .before .before .before in
+    let told = told-here (else1 .before) in
+    let room = room-here (c .before) .room in
+    (room .few, omega (arith, told .counted, told .facts .buffer, room .fits))
 
--- src/tape_write.rt:70:13
 predict-requires : tie.Need-predict-requires
-predict-requires c κs = ?
+predict-requires c κs =
+    let recorded = c .before .before .before .before in
+    let told2 = recorded .before .before in
+    let else1 = told2 .before .before .before in
+    let a = start (else1 .before) .args in
+    let told = told-here (else1 .before) in
+    let checked = else1 .before .before .before .before in
+    subst⁻¹ (λ (st : State). Predictable (length (a .image .now)) st (length (recorded .recorded .last .1 .0)) (a .tape .now) (a .start) (length (a .predicted .now))) (recorded .recorded .ensures .0)
+    (subst⁻¹ (λ (n : ℕ). Predictable (length (a .image .now)) (appended (a .state) (a .addr) (length (a .bytes .now))) n (a .tape .now) (a .start) (length (a .predicted .now))) (recorded .recorded .kept .1 .0)
+    (predictable-with (length (a .image .now)) (a .state) (length (a .log .now)) (length (a .predicted .now)) (a .tape .now) (a .start) (a .addr) (length (a .bytes .now)) (checked .checked .ensures .1) (told .facts) (else1 .if1 .left) (room-here told2)))
 
--- src/tape_write.rt:76:31
-enum-told-3 : tie.Need-enum-told-3
-enum-told-3 c = search needs
-
--- src/tape_write.rt:42:1
-same-length : tie.Need-same-length
-same-length c = search needs
-
--- src/tape_write.rt:42:1
-same-length-2 : tie.Need-same-length-2
-same-length-2 c = search needs
-
--- src/tape_write.rt:42:1
 returns-3 : tie.Need-returns-3
-returns-3 c = ?
+returns-3 c =
+    let recorded = c .before .before .before .before .before .before .before in
+    let told2 = recorded .before .before in
+    let else1 = told2 .before .before .before in
+    let a = start (else1 .before) .args in
+    let told = told-here (else1 .before) in
+    let log = recorded .recorded .ensures .1 ∙ ap (λ (n : ℕ). update-bytes (a .log .now) n (a .bytes .now)) (told .counted) in
+    tape-writes-done (a .image .now) (a .state) (a .log .now) (a .tape .now) (a .start) (a .predicted .now) (a .addr) (a .bytes .now) (number-here (told2 .before .before)) (told2 .enum-told2 .given .1) (recorded .recorded .ensures .0) log
+    (c .before .before .predict .ensures ∙ ap₂ (λ (st : State) (l : List ℕ). predicted-now (a .image .now) st l (a .tape .now) (a .start)) (recorded .recorded .ensures .0) log)
 
--- src/tape_write.rt:42:1
 returns-4 : tie.Need-returns-4
-returns-4 c = ?
+returns-4 c =
+    let room = c .before .before in
+    let a = start (room .before .before) .args in
+    tape-writes-refused (a .image .now) (a .state) (a .log .now) (a .tape .now) (a .start) (a .predicted .now) (a .addr) (a .bytes .now) (number-here room) (c .enum-told3 .given .0 .0) (c .enum-told3 .given .1)
 
 pub tape-write-spec : {M : Type 1} → statement M
 tape-write-spec =
     tie.close
     (tie.spec
-    checked-requires
-    enum-known-used
-    enum-told
+    (λ c κs. search needs)
+    (λ c. search needs)
+    (λ c. search needs)
     returns
     returns-2
     tape-room-requires
-    enum-told-2
+    (λ c. search needs)
     recorded-requires
     predict-requires
-    enum-told-3
-    same-length
-    same-length-2
+    (λ c. search needs)
+    (λ c. search needs)
+    (λ c. search needs)
     returns-3
     returns-4)

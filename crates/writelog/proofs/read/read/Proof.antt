@@ -1,72 +1,49 @@
-use Rattle.writelog.proofs.ReadLaws.{Asked, asked-done}
+-- `writelog::read::read` meets its promise: the part is cut out of the slice that `read_fill` filled, so it is the caller's own memory. Assumes nothing.
+use Prim.Native.Nat.{ℕ, _+_}
+use native.Mathlib.Omega.{arith}
+use native.Mathlib.Nat.{add-sub-cancel-left, add-zero, add-comm}
+use mathlib.Core.List.{List}
+use mathlib.Core.Path.{_≡_, refl, sym, ap, ap₂, _∙_}
+use lib.ListN.{length, take, drop}
+use borrow.Author.Needs.{needs}
 use Rattle.writelog.specs.Read.{read-number}
 use Rattle.writelog.specs.State.{view}
 use Rattle.replay.specs.AsyncSpec.{readable}
 use Rattle.region.proofs.AnswerLaws.{done-changed, refused-left}
 use Rattle.region.specs.Pmemspec.{extract-bytes}
-use Rattle.region.specs.Answer.{answer-number, if-done}
-use lib.ListN.{length, take, drop}
-use mathlib.Core.List.{List}
-use mathlib.Core.Path.{_≡_, refl, sym, ap, ap₂, _∙_}
-use native.Mathlib.Omega.{arith}
-use native.Mathlib.Nat.{add-sub-cancel-left, add-zero, add-comm}
-use Prim.Native.Nat.{ℕ, _+_, _≤_}
-use borrow.Author.Needs.{needs}
+use Rattle.region.specs.Answer.{answer-number}
+use Rattle.writelog.proofs.ReadLaws.{Asked, asked-done}
 use Rattle.writelog.proofs.read.read.Statement.{statement}
 use Rattle.writelog.proofs.read.read.Tie as tie
-use Rattle.writelog.proofs.read.read.Reads as reads
-use Rattle.writelog.proofs.read.read.Lts as lts
-use Rattle.writelog.proofs.read.read_fill.Reads as read-fill-reads
 
--- src/read.rt:75:24
-read-fill-requires : tie.Need-read-fill-requires
-read-fill-requires c κs = search needs
-
-enum-told : tie.Need-enum-told
-enum-told c = search needs
-
--- src/read.rt:76:16
-enum-told-2 : tie.Need-enum-told-2
-enum-told-2 c = search needs
-
--- src/read.rt:76:9
-slice-aggregate-result : tie.Need-slice-aggregate-result
-slice-aggregate-result c = search needs
+-- the function's entry, from where the test of the state was passed
+abbrev start : tie.After-enum-told → tie.Start
+start c = c .before .before .before .before .before .before .before .before .before
 
 -- the read is done, where its number says so
-done-here : (c : tie.After-enum-told) → read-number (c .before .before .before .before .before .before .before .before .before .args .image .now) (c .before .before .before .before .before .before .before .before .before .args .state) (c .before .before .before .before .before .before .before .before .before .args .log .now) (c .before .before .before .before .before .before .before .before .before .args .work .now) (c .before .before .before .before .before .before .before .before .before .args .addr) (c .before .before .before .before .before .before .before .before .before .args .len) ≡ 0
+done-here : (c : tie.After-enum-told) → read-number (start c .args .image .now) (start c .args .state) (start c .args .log .now) (start c .args .work .now) (start c .args .addr) (start c .args .len) ≡ 0
 done-here c = sym (c .before .before .before .before .read-fill .ensures .answers) ∙ ap answer-number (c .enum-told .given .1)
 
-asked-here : (c : tie.After-enum-told) → Asked (length (c .before .before .before .before .before .before .before .before .before .args .image .now)) (c .before .before .before .before .before .before .before .before .before .args .state) (length (c .before .before .before .before .before .before .before .before .before .args .log .now)) (length (c .before .before .before .before .before .before .before .before .before .args .work .now)) (c .before .before .before .before .before .before .before .before .before .args .addr) (c .before .before .before .before .before .before .before .before .before .args .len)
-asked-here c = asked-done _ (c .before .before .before .before .before .before .before .before .before .args .state) _ _ _ _ (done-here c)
+asked-here : (c : tie.After-enum-told) → Asked (length (start c .args .image .now)) (start c .args .state) (length (start c .args .log .now)) (length (start c .args .work .now)) (start c .args .addr) (start c .args .len)
+asked-here c = asked-done _ (start c .args .state) _ _ _ _ (done-here c)
 
--- src/read.rt:76:9
 returns : tie.Need-returns
-returns c = let fill = c .before .before .before .before .before in
+returns c =
+    let fill = c .before .before .before .before .before in
     let a = fill .before .before .before .before .before .args in
     let why = c .before .enum-told2 .given .0 .0 in
     let e = sym (fill .read-fill .ensures .answers) ∙ ap answer-number (c .before .enum-told2 .given .1) in
     record { block = refl; offset = sym (add-zero (a .work .ptr .1)) ∙ ap (λ (k : ℕ). a .work .ptr .1 + k) (refused-left why (a .addr) 0 e); bytes = ap (extract-bytes (readable (view (a .image .now) (a .state) (a .log .now))) (a .addr)) (refused-left why (a .len) 0 e) }
 
--- src/read.rt:78:15
 add-end : tie.Need-add-end
 add-end c = omega (arith, asked-here c)
 
--- src/read.rt:79:5
-sub-result : tie.Need-sub-result
-sub-result c = search needs
-
--- src/read.rt:79:5
-part-work-start : tie.Need-part-work-start
-part-work-start c = search needs
-
--- src/read.rt:79:5
 part-work-end : tie.Need-part-work-end
 part-work-end c = omega (arith, asked-here c, c .before .before .before .before .read-fill .kept .1 .1 .1 .0)
 
--- src/read.rt:65:1
 returns-2 : tie.Need-returns-2
-returns-2 c = let told = c .before in
+returns-2 c =
+    let told = c .before in
     let fill = told .before .before .before .before in
     let a = fill .before .before .before .before .before .args in
     let e = done-here told in
@@ -76,13 +53,13 @@ pub read-spec : {M : Type 1} → statement M
 read-spec =
     tie.close
     (tie.spec
-    read-fill-requires
-    enum-told
-    enum-told-2
-    slice-aggregate-result
+    (λ c κs. search needs)
+    (λ c. search needs)
+    (λ c. search needs)
+    (λ c. search needs)
     returns
     add-end
-    sub-result
-    part-work-start
+    (λ c. search needs)
+    (λ c. search needs)
     part-work-end
     returns-2)

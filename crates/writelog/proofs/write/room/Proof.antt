@@ -1,51 +1,41 @@
-use Rattle.writelog.proofs.WriteLaws.{room-outside, room-full, room-lacking, room-there}
-use lib.Dec.{leb}
-use borrow.Author.Tests.{not-true, not-false}
+-- `writelog::write::room` meets its contract, a law for each number. Assumes nothing.
+use Prim.Native.Nat.{_+_}
+use native.Mathlib.Omega.{arith}
 use mathlib.Core.Bool.{true, false, not}
 use mathlib.Core.Path.{_≡_, sym, _∙_}
-use native.Mathlib.Omega.{arith}
-use Prim.Native.Nat.{_+_, _≤_, _<_}
+use lib.Dec.{leb}
+use borrow.Author.Tests.{not-true, not-false}
 use borrow.Author.Needs.{needs}
+use Rattle.writelog.proofs.WriteLaws.{room-outside, room-full, room-lacking, room-there}
 use Rattle.writelog.proofs.write.room.Statement.{statement}
 use Rattle.writelog.proofs.write.room.Tie as tie
-use Rattle.writelog.proofs.write.room.Reads as reads
-use Rattle.writelog.proofs.write.room.Lts as lts
-use Rattle.writelog.proofs.state.within.Reads as within-reads
-
--- src/write.rt:31:9
-within-requires : tie.Need-within-requires
-within-requires c κs = search needs
 
 -- the write lies inside the image, once its test is passed
 inside-here : (c : tie.After-within) → not (c .within .result) ≡ false → leb (c .before .args .addr + c .before .args .len) (c .before .args .image) ≡ true
 inside-here c e = sym (c .within .ensures) ∙ not-false (c .within .result) e
 
--- src/write.rt:32:9
 returns : tie.Need-returns
-returns c = let a = c .before .before .args in
+returns c =
+    let a = c .before .before .args in
     sym (room-outside (a .image) (a .state) (a .addr) (a .len) (sym (c .before .within .ensures) ∙ not-true (c .before .within .result) (c .if1 .taken)))
 
--- src/write.rt:35:9
 returns-2 : tie.Need-returns-2
-returns-2 c = let at = c .before .before .before in
+returns-2 c =
+    let at = c .before .before .before in
     let a = at .before .args in
     sym (room-full (a .image) (a .state) (a .addr) (a .len) (inside-here at (c .before .before .if1 .left)) (c .if2 .taken))
 
--- src/write.rt:37:8
-sub-if3 : tie.Need-sub-if3
-sub-if3 c = search needs
-
--- src/write.rt:38:9
 returns-3 : tie.Need-returns-3
-returns-3 c = let at = c .before .before .before .before in
+returns-3 c =
+    let at = c .before .before .before .before in
     let a = at .before .args in
     sym (room-lacking (a .image) (a .state) (a .addr) (a .len) (inside-here at (c .before .before .before .if1 .left)) (c .before .if2 .left) (omega (arith, at .before .pre .0)))
 
--- src/write.rt:27:1
 returns-4 : tie.Need-returns-4
-returns-4 c = let at = c .before .before .before .before in
+returns-4 c =
+    let at = c .before .before .before .before in
     let a = at .before .args in
     sym (room-there (a .image) (a .state) (a .addr) (a .len) (inside-here at (c .before .before .before .if1 .left)) (c .before .if2 .left) (omega (arith, at .before .pre .0)))
 
 pub room-spec : {M : Type 1} → statement M
-room-spec = tie.close (tie.spec within-requires returns returns-2 sub-if3 returns-3 returns-4)
+room-spec = tie.close (tie.spec (λ c κs. search needs) returns returns-2 (λ c. search needs) returns-3 returns-4)

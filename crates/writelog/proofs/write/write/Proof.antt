@@ -1,104 +1,87 @@
-use Rattle.writelog.proofs.WriteLaws.{Room, room-done, write-unsound, write-sound, writes-done, writes-refused}
-use Rattle.writelog.proofs.Soundness.{Told, told-bytes, told-unsound}
-use Rattle.writelog.specs.declared.state.State.{State}
-use Rattle.writelog.specs.Write.{Writes, room-number, write-number}
-use Rattle.writelog.specs.State.{appended}
-use Rattle.region.specs.declared.Answer.the-variants.{Done, Refused}
-use Rattle.region.specs.declared.Answer.{Answer}
+-- `writelog::write::write` meets its promise: the number is 1 where the state is unsound and otherwise that of the room there is; a write is recorded
+-- exactly where that is 0. Assumes nothing.
+use Prim.Native.Nat.{ℕ}
+use native.Mathlib.Omega.{arith}
+use mathlib.Core.Path.{_≡_, refl, sym, ap, _∙_}
+use lib.ListN.{length}
+use borrow.Author.Needs.{needs}
+use Rattle.writelog.specs.Write.{write-number}
 use Rattle.region.specs.declared.Refusal.the-variants.{BadState}
 use Rattle.region.specs.Pmemspec.{update-bytes}
 use Rattle.region.specs.Answer.{answer-number}
-use lib.ListN.{length}
-use mathlib.Core.Path.{_≡_, refl, sym, ap, _∙_}
-use native.Mathlib.Omega.{arith}
-use Prim.Native.Nat.{ℕ, _+_, _≤_, _<_}
-use borrow.Author.Needs.{needs}
+use Rattle.writelog.proofs.WriteLaws.{Room, room-done, write-unsound, write-sound, writes-done, writes-refused}
+use Rattle.writelog.proofs.Soundness.{Told, told-bytes, told-unsound}
 use Rattle.writelog.proofs.write.write.Statement.{statement}
 use Rattle.writelog.proofs.write.write.Tie as tie
-use Rattle.writelog.proofs.write.write.Reads as reads
-use Rattle.writelog.proofs.write.write.Lts as lts
-use Rattle.writelog.proofs.state.checked.Reads as checked-reads
-use Rattle.writelog.proofs.write.recorded.Reads as recorded-reads
-use Rattle.writelog.proofs.write.room.Reads as room-reads
 
--- src/write.rt:63:36
-checked-requires : tie.Need-checked-requires
-checked-requires c κs = search needs
+-- the places that the answers go back to
+abbrev start : tie.After-known-told → tie.Start
+start c = c .before .before .before .before .before .before .before
 
--- src/write.rt:63:28
-enum-known-used : tie.Need-enum-known-used
-enum-known-used c = search needs
-
--- src/write.rt:65:37
-enum-told : tie.Need-enum-told
-enum-told c = search needs
+abbrev asked : tie.After-enum-told2 → tie.After-room
+asked c = c .before .before
 
 -- what the test of the state told
-told-here : (c : tie.After-known-told) → Told (length (c .before .before .before .before .before .before .before .args .image .now)) (c .before .before .before .before .before .before .before .args .state) (length (c .before .before .before .before .before .before .before .args .log .now)) (c .before .used .given .0 .0)
-told-here c = told-bytes _ (c .before .before .before .before .before .before .before .args .state) _ (c .before .before .before .checked .ensures .0) (c .before .used .given .1)
+told-here : (c : tie.After-known-told) → Told (length (start c .args .image .now)) (start c .args .state) (length (start c .args .log .now)) (c .before .used .given .0 .0)
+told-here c = told-bytes _ (start c .args .state) _ (c .before .before .before .checked .ensures .0) (c .before .used .given .1)
+
+-- a sound state has the number of the room that there is
+number-here : (c : tie.After-room)
+    → answer-number (c .room .result) ≡ write-number (start (c .before) .args .image .now) (start (c .before) .args .state) (start (c .before) .args .log .now) (start (c .before) .args .addr) (length (start (c .before) .args .bytes .now))
+number-here c =
+    let a = start (c .before) .args in
+    c .room .ensures ∙ sym (write-sound (a .image .now) (a .state) (a .log .now) (a .addr) (length (a .bytes .now)) (told-here (c .before) .good))
 
 -- there is room, where its test says so
-room-here : (c : tie.After-enum-told2) → room-number (length (c .before .before .before .before .before .before .before .before .before .before .args .image .now)) (c .before .before .before .before .before .before .before .before .before .before .args .state) (c .before .before .before .before .before .before .before .before .before .before .args .addr) (length (c .before .before .before .before .before .before .before .before .before .before .args .bytes .now)) ≡ 0
-room-here c = sym (c .before .before .room .ensures) ∙ ap answer-number (c .enum-told2 .given .1)
+room-here : (c : tie.After-enum-told2) → Room (length (start (asked c .before) .args .image .now)) (start (asked c .before) .args .state) (start (asked c .before) .args .addr) (length (start (asked c .before) .args .bytes .now))
+room-here c = room-done _ (start (asked c .before) .args .state) _ _ (sym (asked c .room .ensures) ∙ ap answer-number (c .enum-told2 .given .1))
 
--- src/write.rt:64:9
 returns : tie.Need-returns
-returns c = let a = c .before .before .before .before .before .before .args in
+returns c =
+    let a = c .before .before .before .before .before .before .args in
     let bad = told-unsound _ (a .state) _ (c .before .before .checked .ensures .0) (c .enum-told .given .1) in
-    writes-refused (a .image .now) (a .state) (a .log .now) (a .addr) (a .bytes .now) (sym (write-unsound (a .image .now) (a .state) (a .log .now) (a .addr) (length (a .bytes .now)) bad)) BadState refl
+    writes-refused (a .image .now) (a .state) (a .log .now) (a .addr) (a .bytes .now)
+    (sym (write-unsound (a .image .now) (a .state) (a .log .now) (a .addr) (length (a .bytes .now)) bad))
+    BadState
+    refl
 
--- src/write.rt:69:9
 room-requires : tie.Need-room-requires
-room-requires c κs = let told = told-here c in
+room-requires c κs =
+    let told = told-here c in
     (told .counted, omega (arith, told .counted, told .facts .room))
 
--- src/write.rt:73:36
-enum-told-2 : tie.Need-enum-told-2
-enum-told-2 c = search needs
-
--- src/write.rt:73:20
 recorded-requires : tie.Need-recorded-requires
-recorded-requires c κs = let start = c .before .before .before .before .before .before .before .before .before .before .before in
-    let a = start .args in
-    let told = told-here (c .before .before .before .before) in
-    let room = room-done (length (a .image .now)) (a .state) (a .addr) (length (a .bytes .now)) (room-here (c .before)) in
+recorded-requires c κs =
+    let told = told-here (asked (c .before) .before) in
+    let room = room-here (c .before) in
     (room .few, omega (arith, told .counted, told .facts .buffer, room .fits))
 
--- src/write.rt:75:31
-enum-told-3 : tie.Need-enum-told-3
-enum-told-3 c = search needs
-
--- src/write.rt:60:1
-same-length : tie.Need-same-length
-same-length c = search needs
-
--- src/write.rt:60:1
 returns-2 : tie.Need-returns-2
-returns-2 c = let told2 = c .before .before .before .before in
-    let room = told2 .before .before in
-    let a = room .before .before .before .before .before .before .before .before .args in
-    let told = told-here (room .before) in
-    writes-done (a .image .now) (a .state) (a .log .now) (a .addr) (a .bytes .now) (room .room .ensures ∙ sym (write-sound (a .image .now) (a .state) (a .log .now) (a .addr) (length (a .bytes .now)) (told .good))) (told2 .enum-told2 .given .1) (c .before .before .recorded .ensures .0) (c .before .before .recorded .ensures .1 ∙ ap (λ (n : ℕ). update-bytes (a .log .now) n (a .bytes .now)) (told .counted))
+returns-2 c =
+    let told2 = c .before .before .before .before in
+    let a = start (asked told2 .before) .args in
+    let put = c .before .before .recorded in
+    writes-done (a .image .now) (a .state) (a .log .now) (a .addr) (a .bytes .now) (number-here (asked told2)) (told2 .enum-told2 .given .1) (put .ensures .0)
+    (put .ensures .1 ∙ ap (λ (n : ℕ). update-bytes (a .log .now) n (a .bytes .now)) (told-here (asked told2 .before) .counted))
 
--- src/write.rt:60:1
 returns-3 : tie.Need-returns-3
-returns-3 c = let room = c .before .before in
-    let a = room .before .before .before .before .before .before .before .before .args in
-    let told = told-here (room .before) in
-    writes-refused (a .image .now) (a .state) (a .log .now) (a .addr) (a .bytes .now) (room .room .ensures ∙ sym (write-sound (a .image .now) (a .state) (a .log .now) (a .addr) (length (a .bytes .now)) (told .good))) (c .enum-told3 .given .0 .0) (c .enum-told3 .given .1)
+returns-3 c =
+    let room = c .before .before in
+    let a = start (room .before) .args in
+    writes-refused (a .image .now) (a .state) (a .log .now) (a .addr) (a .bytes .now) (number-here room) (c .enum-told3 .given .0 .0) (c .enum-told3 .given .1)
 
 pub write-spec : {M : Type 1} → statement M
 write-spec =
     tie.close
     (tie.spec
-    checked-requires
-    enum-known-used
-    enum-told
+    (λ c κs. search needs)
+    (λ c. search needs)
+    (λ c. search needs)
     returns
     room-requires
-    enum-told-2
+    (λ c. search needs)
     recorded-requires
-    enum-told-3
-    same-length
+    (λ c. search needs)
+    (λ c. search needs)
     returns-2
     returns-3)

@@ -1,0 +1,4 @@
+-- No promise leaves a choice: the scheme, and the calls of each crate.
+pub mod Scheme
+pub mod Region
+pub mod Writelog

@@ -1,0 +1,74 @@
+-- The correspondence that pmem_async_equiv_t.rs sketches: for every log and every crash of it there is a tape that foretells just that crash, and the predicted image is the
+-- original's durable state for the resolved prophecies. The other way round a tape's cut is a crash. Assumes nothing.
+use Prim.Native.Nat.{ℕ}
+use mathlib.Core.Path.{_≡_, refl, sym, ap, subst, subst⁻¹, _∙_}
+use mathlib.Core.Logic.{_↔_}
+use mathlib.Core.Bool.{Bool, false}
+use mathlib.Core.List.{List, [], _++_}
+use lib.Dec.{lit<}
+use lib.ListN.{length}
+use Rattle.replay.specs.AsyncSpec.{AsyncView, can-crash-as, can-crash}
+use Rattle.cuts.specs.Bits.{chunks}
+use Rattle.cuts.specs.Packed.{are-bytes}
+use Rattle.cuts.specs.Prophecy.{prophecy}
+use Rattle.cuts.specs.Shape.{has-shape}
+use Rattle.cuts.proofs.Packed.{bytes-of-append}
+use Rattle.cuts.proofs.Shape.{crash-rows-shaped}
+use Rattle.tape.specs.Epoch.{flush-foretold, epoch-rows, epoch-number}
+use Rattle.tape.specs.Foretold.{foretold, predicted-image}
+use Rattle.tape.specs.Future.{Foreseen, TellsEpoch, epoch-bytes}
+use Rattle.tape.proofs.Futures.{bytes-of-epoch, epoch-tells}
+use Rattle.tape.proofs.Foretells.{foretold-cut-is-a-crash}
+
+-- a tape whose epoch at `start` is right for the log and resolves the original's prophecies so
+pub record Resolves (C : ℕ) (v : AsyncView) (tape : List ℕ) (start : ℕ) (flushing : Bool) (rows : List (List Bool)) : Type 0 where
+  pub right : epoch-number (chunks C v) (length (v .outstanding-writes)) tape start ≡ 0
+  pub header-tells : flush-foretold tape start ≡ flushing
+  pub rows-tell : epoch-rows (chunks C v) (length (v .outstanding-writes)) tape start ≡ rows
+  pub view-is : foretold C tape start v ≡ prophecy C flushing v rows
+
+module _ (C : ℕ) (v : AsyncView) where
+  abbrev K : ℕ
+  K = chunks C v
+
+  abbrev n : ℕ
+  n = length (v .outstanding-writes)
+
+  -- an epoch that tells a future tells it of every log with as many writes
+  pub telling-resolves : (tape : List ℕ) (start : ℕ) (e : Foreseen) → length (e .rows) ≡ n → TellsEpoch K tape start e → Resolves C v tape start (e .flushing) (e .rows)
+  telling-resolves tape start e l t =
+      let rows : epoch-rows K n tape start ≡ e .rows = subst (λ k. epoch-rows K k tape start ≡ e .rows) l (t .rows-tell) in
+      record {
+        right = subst (λ k. epoch-number K k tape start ≡ 0) l (t .right);
+        header-tells = t .header-tells;
+        rows-tell = rows;
+        view-is = ap (λ b. prophecy C b v (epoch-rows K n tape start)) (t .header-tells) ∙ ap (prophecy C (e .flushing) v) rows;
+      }
+
+  -- every resolution of the prophecies has a tape, whatever bytes stand before and behind
+  pub every-prophecy-has-a-tape : (flushing : Bool) (rows : List (List Bool)) → has-shape K n rows → (before after : List ℕ)
+      → Resolves C v (before ++ (epoch-bytes K (record { flushing = flushing; rows = rows }) ++ after)) (length before) flushing rows
+  every-prophecy-has-a-tape flushing rows h before after =
+      telling-resolves (before ++ (epoch-bytes K (record { flushing = flushing; rows = rows }) ++ after)) (length before) (record { flushing = flushing; rows = rows }) (h .row-for-each-write)
+      (epoch-tells K (record { flushing = flushing; rows = rows }) (record { row-for-each-write = refl; bit-for-each-chunk = h .bit-for-each-chunk }) before after)
+
+  -- `crash` of the original: any crash of any log was foretold by some tape, and what is found is the predicted image
+  pub every-crash-has-a-tape : (x : List ℕ) (rows : List (List Bool)) → can-crash-as C v x rows
+      → (tape : List ℕ) × are-bytes tape × Resolves C v tape 0 false rows × (x ≡ predicted-image C tape 0 v)
+  every-crash-has-a-tape x rows h =
+      let shape = crash-rows-shaped C v x rows h in
+      let e : Foreseen = record { flushing = false; rows = rows } in
+      let width : has-shape K (length rows) rows = record { row-for-each-write = refl; bit-for-each-chunk = shape .bit-for-each-chunk } in
+      let resolves = every-prophecy-has-a-tape false rows shape [] [] in
+      (epoch-bytes K e ++ [], bytes-of-append (epoch-bytes K e) [] (bytes-of-epoch K e width) (λ i. lit< tt), resolves, h .leaves ∙ sym (ap (λ w. w .durable-state) (resolves .view-is)))
+
+  -- so the cuts by tape are the crashes
+  pub tapes-cover : (x : List ℕ)
+      → can-crash C v x ↔ ((tape : List ℕ) × are-bytes tape × (epoch-number K n tape 0 ≡ 0) × (flush-foretold tape 0 ≡ false) × (x ≡ predicted-image C tape 0 v))
+  tapes-cover x = (to, from)
+    where
+      to : can-crash C v x → (tape : List ℕ) × are-bytes tape × (epoch-number K n tape 0 ≡ 0) × (flush-foretold tape 0 ≡ false) × (x ≡ predicted-image C tape 0 v)
+      to (rows, h) = let found = every-crash-has-a-tape x rows h in (found .0, found .1, found .2 .right, found .2 .header-tells, found .3)
+
+      from : ((tape : List ℕ) × are-bytes tape × (epoch-number K n tape 0 ≡ 0) × (flush-foretold tape 0 ≡ false) × (x ≡ predicted-image C tape 0 v)) → can-crash C v x
+      from (tape, b, r, f, e) = (epoch-rows K n tape 0, subst⁻¹ (λ y. can-crash-as C v y (epoch-rows K n tape 0)) e (foretold-cut-is-a-crash C tape 0 v f))
