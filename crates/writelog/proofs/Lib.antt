@@ -2,6 +2,7 @@
 -- puts it together.
 pub mod Records
 pub mod Soundness
+pub mod Views
 pub mod Walk
 pub mod WriteLaws
 pub mod ReadLaws
