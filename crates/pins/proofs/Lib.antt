@@ -2,4 +2,5 @@
 pub mod Scheme
 pub mod Region
 pub mod Writelog
+pub mod Gate
 pub mod Tape
