@@ -1,7 +1,9 @@
--- The proof of demand 3. Every step leaves the desk as it was, records a write that the gate's verdict admitted, or settles an image that a cut could
--- leave (`Moves`, `Steps`); each of the three keeps what the theorem says (`Keeps`, `Theorem`).
-pub mod Admitted
-pub mod Moves
+-- The proof of demand 3. `Keeps` has the three things that a step can do and what each keeps, `Steps` that every call's promise does one of them,
+-- `Theorem` the theorem, `TapeTheorem` the same by tape. `Worked` is a session that is one, `Sharp` what goes wrong where a premise is broken.
+pub mod Keeps
 pub mod Steps
 pub mod Theorem
 pub mod TapeTheorem
+pub mod Computing
+pub mod Worked
+pub mod Sharp

@@ -1,208 +1,182 @@
--- Every step of a run is one of the three moves, whatever its answer: each case takes the call's own promise apart. Assumes nothing.
-use Prim.Native.Nat.{ℕ, zero, suc, _+_, _≤_, _<_}
+-- Every step of a run keeps what a session holds, whatever its answer: each case takes the call's own promise apart. Assumes nothing.
+use Prim.Native.Nat.{ℕ, zero, suc, _+_}
 use native.Mathlib.Omega.{arith}
-use mathlib.Core.Path.{_≡_, refl, sym, ap, ap₂, subst⁻¹, _∙_}
-use mathlib.Core.Bool.{Bool, true, false}
-use mathlib.Core.List.{List, [], _∷_}
+use mathlib.Core.Path.{_≡_, refl, sym, ap, _∙_}
+use mathlib.Core.Bool.{false}
+use mathlib.Core.List.{List}
 use lib.Dec.{lit<}
 use lib.ListN.{length, getD, replicate}
-use Rattle.region.specs.Limits.{const-persistence-chunk-size, writes-limit}
-use Rattle.region.specs.Answer.{Report, refusal-number, if-done}
-use Rattle.region.specs.Pmemspec.{update-bytes}
+use Rattle.region.specs.Limits.{const-persistence-chunk-size}
+use Rattle.region.specs.Answer.{Report}
 use Rattle.region.specs.declared.Answer.{Answer}
 use Rattle.region.specs.declared.Answer.the-variants as answer
 use Rattle.region.specs.declared.Refusal.{Refusal}
-use Rattle.region.proofs.AnswerLaws.{done-changed, not-done, refusal-not-done}
-use Rattle.replay.specs.AsyncSpec.{AsyncView, committed, readable, flush-selective}
+use Rattle.region.proofs.AnswerLaws.{refusal-not-done}
+use Rattle.replay.specs.AsyncSpec.{AsyncView, committed, readable, flush-selective, can-crash}
 use Rattle.replay.specs.Rows.{rows-at}
-use Rattle.cuts.specs.Bits.{row-bit-at}
+use Rattle.cuts.specs.Bits as bits
 use Rattle.cuts.proofs.Always.{cut-could-leave-the-read-image, cut-could-leave-the-last-flush}
 use Rattle.cuts.proofs.Flush.{flush-leaves-the-read-image}
 use Rattle.cuts.proofs.Nothing.{cut-that-keeps-nothing}
 use Rattle.cuts.proofs.Shape.{shaped-rows-crash}
 use Rattle.cuts.proofs.Tables.{rows-at-shape}
-use Rattle.writelog.specs.State.{log-records, together, appended, emptied}
-use Rattle.writelog.specs.Write.{write-number, Writes}
-use Rattle.writelog.specs.Flush.{flush-number, Flushes}
-use Rattle.writelog.specs.Cut.{chunks, cut-number, cut-image, Cuts}
+use Rattle.writelog.specs.State.{emptied}
+use Rattle.writelog.specs.Write.{Writes}
+use Rattle.writelog.specs.Flush.{Flushes}
+use Rattle.writelog.specs.Cut.{chunks, Cuts}
 use Rattle.writelog.specs.declared.state.State.{State}
 use Rattle.writelog.specs.declared.cut.CutAnswer.{CutAnswer}
 use Rattle.writelog.specs.declared.cut.CutAnswer.the-variants as cut-answer
-use Rattle.gate.specs.Opening.{open-number, fresh, Opens}
-use Rattle.gate.specs.Judgement.{judge-number, Judges, Gates}
+use Rattle.gate.specs.Opening.{fresh, Opens}
+use Rattle.gate.specs.Judgement.{Judges, Gates}
 use Rattle.gate.specs.declared.Verdict.{Verdict}
 use Rattle.gate.specs.declared.Verdict.the-variants as verdict
-use Rattle.tape.specs.Ending.{predicted-now}
-use Rattle.tape.specs.Write.{tape-write-number, TapeWrites}
-use Rattle.tape.specs.Flush.{tape-flush-number, TapeFlushes}
-use Rattle.tape.specs.Cut.{tape-cut-number, TapeCuts}
+use Rattle.gate.proofs.Meaning.{gate-judges}
+use Rattle.gate.proofs.Gives.{opens-means, opened-fresh}
+use Rattle.tape.specs.Write.{TapeWrites}
+use Rattle.tape.specs.Flush.{TapeFlushes}
+use Rattle.tape.specs.Cut.{TapeCuts}
 use Rattle.tape.proofs.Recorded.{writes-counted}
-use Rattle.tape.proofs.NumberLaws.{Ending, ending-done}
+use Rattle.tape.proofs.NumberLaws.{ending-done}
 use Rattle.tape.proofs.PredictLaws.{predicted-cut}
 use Rattle.session.specs.History.{Event, nothing, written, flushed, cut-by, reopened, if-answered, if-admitted, if-cut, rows-there, none-kept, happen, settled}
 use Rattle.session.specs.Run as run
 use Rattle.session.specs.Run.{Desk, desk, seen, Step}
-use Rattle.session.proofs.Admitted.{Admitted, admitted}
-use Rattle.session.proofs.Moves.{Whole, Moved, stays, records, settles}
-
--- what a promise says of memory, where the number is 0 and where it is a refusal's
-module _ {A : Type 0} {n : ℕ} {x : A} (after before : A) (e : x ≡ if-done n after before) where
-  pub changed : n ≡ 0 → x ≡ after
-  changed none = e ∙ sym (done-changed after before none)
-
-  pub left : {k : ℕ} → 0 < k → n ≡ k → x ≡ before
-  left refusal some = e ∙ not-done n after before (rw some refusal)
+use Rattle.session.proofs.Keeps.{changed, left, HoldsAt, Keeps, stays, unmoved, log-stays, image-stays, records, settles}
 
 -- the number of a report
 pub numbered : {r : Report} {n : ℕ} {values : List ℕ} → r ≡ record { number = n; values = values } → n ≡ r .number
 numbered e = sym (ap (λ (r : Report). r .number) e)
 
--- rows of no set bit have no set bit
+-- rows of no set bit keep nothing
 no-bit : (n c : ℕ) → getD (replicate n false) c false ≡ false
 no-bit zero c = refl
 no-bit (suc n) zero = refl
 no-bit (suc n) (suc c) = no-bit n c
 
-nothing-kept : (n K j c : ℕ) → row-bit-at (replicate n (replicate K false)) j c ≡ false
-nothing-kept zero K j c = refl
-nothing-kept (suc n) K zero c = no-bit K c
-nothing-kept (suc n) K (suc j) c = nothing-kept n K j c
+no-row : (n K j c : ℕ) → bits.row-bit-at (replicate n (replicate K false)) j c ≡ false
+no-row zero K j c = refl
+no-row (suc n) K zero c = no-bit K c
+no-row (suc n) K (suc j) c = no-row n K j c
 
-module _ (sheet : List ℕ) where
-  -- a promise says what the memory equals
-  leaves : {d : Desk} {e : Event} {d₁ d₂ : Desk} → d₁ ≡ d₂ → Moved sheet d e d₂ → Moved sheet d e d₁
-  leaves {d} {e} same m = subst⁻¹ (Moved sheet d e) same m
+-- so a cut by them leaves the image at the last flush
+pub none-kept-leaves : (v : AsyncView) → flush-selective const-persistence-chunk-size v (none-kept const-persistence-chunk-size v) ≡ committed v
+none-kept-leaves v =
+    cut-that-keeps-nothing const-persistence-chunk-size (lit< tt) v (none-kept const-persistence-chunk-size v)
+    (λ j c h k. no-row (length (v .outstanding-writes)) (bits.chunks const-persistence-chunk-size v) j c)
 
-  module _ (image : List ℕ) (st : State) (log : List ℕ) where
-    abbrev here : Desk
-    here = desk image st log
+module _ (sheet image : List ℕ) (st : State) (log : List ℕ) (h : HoldsAt sheet (desk image st log)) where
+  abbrev here : Desk
+  here = desk image st log
 
-    -- a number above 0 leaves all as it was
-    module _ {n k : ℕ} (refusal : 0 < k) (some : n ≡ k) {st′ : State} (t : State) (s : st′ ≡ if-done n t st) where
-      log-stays : {log′ : List ℕ} (l : List ℕ) → log′ ≡ if-done n l log → Moved sheet here nothing (desk image st′ log′)
-      log-stays l e = leaves (ap₂ (desk image) (left t st s refusal some) (left l log e refusal some)) stays
+  -- writes
+  gate-keeps : {work : List ℕ} {addr : ℕ} {bytes : List ℕ} (v : Verdict) {st′ : State} {log′ work′ : List ℕ}
+      → Gates image st log sheet work addr bytes v st′ log′ work′ → Keeps sheet here (if-admitted v (written addr bytes)) (desk image st′ log′)
+  gate-keeps {work} {addr} {bytes} (verdict.Admitted n) p =
+      let none = numbered (p .answers) in
+      records sheet image st log h (gate-judges image st log sheet work addr bytes p) (changed _ _ (p .state-after) none) (changed _ _ (p .log-after) none)
+  gate-keeps (verdict.Denied m) p = log-stays sheet image st log h (lit< tt) (numbered (p .answers)) _ (p .state-after) _ (p .log-after)
+  gate-keeps (verdict.Refused why) p = log-stays sheet image st log h (refusal-not-done why) (numbered (p .answers)) _ (p .state-after) _ (p .log-after)
 
-      image-stays : {image′ : List ℕ} (i : List ℕ) → image′ ≡ if-done n i image → Moved sheet here nothing (desk image′ st′ log)
-      image-stays i e = leaves (ap₂ (λ (x : List ℕ) (t : State). desk x t log) (left i image e refusal some) (left t st s refusal some)) stays
+  refused-write-keeps : {addr : ℕ} {bytes : List ℕ} {why : Refusal} {st′ : State} {log′ : List ℕ}
+      → Writes image st log addr bytes (answer.Refused why) st′ log′ → Keeps sheet here nothing (desk image st′ log′)
+  refused-write-keeps {why = why} p = log-stays sheet image st log h (refusal-not-done why) (sym (p .answers)) _ (p .state-after) _ (p .log-after)
 
-    -- a judging call that admitted
-    judged : {work : List ℕ} {addr : ℕ} {bytes : List ℕ} {n : ℕ} {work′ : List ℕ} → Judges image st log sheet work addr bytes (verdict.Admitted n) work′
-        → Admitted image st log sheet work addr bytes
-    judged {work} {addr} {bytes} p = admitted image st log sheet work addr bytes (numbered (p .answers))
+  write-keeps : {work : List ℕ} {addr : ℕ} {bytes : List ℕ} {n : ℕ} {work′ : List ℕ} → Judges image st log sheet work addr bytes (verdict.Admitted n) work′
+      → (a : Answer) {st′ : State} {log′ : List ℕ} → Writes image st log addr bytes a st′ log′ → Keeps sheet here (if-answered a (written addr bytes)) (desk image st′ log′)
+  write-keeps j answer.Done p =
+      let none = sym (p .answers) in
+      records sheet image st log h j (changed _ _ (p .state-after) none) (changed _ _ (p .log-after) none)
+  write-keeps j (answer.Refused why) p = refused-write-keeps p
 
-    recorded : {work : List ℕ} {addr : ℕ} {bytes : List ℕ} {st′ : State} {log′ : List ℕ} → Admitted image st log sheet work addr bytes
-        → st′ ≡ appended st addr (length bytes) → log′ ≡ update-bytes log (together (log-records st)) bytes
-        → Moved sheet here (written addr bytes) (desk image st′ log′)
-    recorded a s l = leaves (ap₂ (desk image) s l) (records (a .room) (a .allowed))
+  refused-tape-write-keeps : {tape : List ℕ} {start : ℕ} {predicted : List ℕ} {addr : ℕ} {bytes : List ℕ} {why : Refusal} {st′ : State} {log′ predicted′ : List ℕ}
+      → TapeWrites image st log tape start predicted addr bytes (answer.Refused why) st′ log′ predicted′ → Keeps sheet here nothing (desk image st′ log′)
+  refused-tape-write-keeps {why = why} p = log-stays sheet image st log h (refusal-not-done why) (sym (p .answers)) _ (p .state-after) _ (p .log-after)
 
-    gate-moves : {work : List ℕ} {addr : ℕ} {bytes : List ℕ} (v : Verdict) {st′ : State} {log′ work′ : List ℕ}
-        → Gates image st log sheet work addr bytes v st′ log′ work′ → Moved sheet here (if-admitted v (written addr bytes)) (desk image st′ log′)
-    gate-moves {work} {addr} {bytes} (verdict.Admitted n) p =
-        let none = numbered (p .answers) in
-        recorded (admitted image st log sheet work addr bytes none) (changed _ _ (p .state-after) none) (changed _ _ (p .log-after) none)
-    gate-moves (verdict.Denied m) p = log-stays (lit< tt) (numbered (p .answers)) _ (p .state-after) _ (p .log-after)
-    gate-moves (verdict.Refused why) p = log-stays (refusal-not-done why) (numbered (p .answers)) _ (p .state-after) _ (p .log-after)
+  tape-write-keeps : {work : List ℕ} {addr : ℕ} {bytes : List ℕ} {n : ℕ} {work′ : List ℕ} → Judges image st log sheet work addr bytes (verdict.Admitted n) work′
+      → {tape : List ℕ} {start : ℕ} {predicted : List ℕ} (a : Answer) {st′ : State} {log′ predicted′ : List ℕ}
+      → TapeWrites image st log tape start predicted addr bytes a st′ log′ predicted′ → Keeps sheet here (if-answered a (written addr bytes)) (desk image st′ log′)
+  tape-write-keeps j answer.Done p =
+      let none = sym (p .answers) in
+      records sheet image st log h j (changed _ _ (p .state-after) none) (changed _ _ (p .log-after) none)
+  tape-write-keeps j (answer.Refused why) p = refused-tape-write-keeps p
 
-    write-refused : {addr : ℕ} {bytes : List ℕ} {why : Refusal} {st′ : State} {log′ : List ℕ}
-        → Writes image st log addr bytes (answer.Refused why) st′ log′ → Moved sheet here nothing (desk image st′ log′)
-    write-refused {why = why} p = log-stays (refusal-not-done why) (sym (p .answers)) _ (p .state-after) _ (p .log-after)
+  -- endings: an image that a cut could leave, and an empty log
+  ends : {e : Event} {x : List ℕ} {st′ : State} {image′ : List ℕ}
+      → can-crash const-persistence-chunk-size (seen here) x → happen const-persistence-chunk-size (seen here) e ≡ settled x → st′ ≡ emptied st → image′ ≡ x
+      → Keeps sheet here e (desk image′ st′ log)
+  ends c happens s i = rw i (settles sheet image st log h st c happens s (h .sized) (h .facts .buffer))
 
-    write-moves : {work : List ℕ} {addr : ℕ} {bytes : List ℕ} → Admitted image st log sheet work addr bytes → (a : Answer) {st′ : State} {log′ : List ℕ}
-        → Writes image st log addr bytes a st′ log′ → Moved sheet here (if-answered a (written addr bytes)) (desk image st′ log′)
-    write-moves j answer.Done p =
-        let none = sym (p .answers) in
-        recorded j (changed _ _ (p .state-after) none) (changed _ _ (p .log-after) none)
-    write-moves j (answer.Refused why) p = write-refused p
+  flushes : {st′ : State} {image′ : List ℕ} → st′ ≡ emptied st → image′ ≡ readable (seen here) → Keeps sheet here flushed (desk image′ st′ log)
+  unfolding happen
+  flushes s i = ends (cut-could-leave-the-read-image const-persistence-chunk-size (lit< tt) (seen here)) (flush-leaves-the-read-image (seen here)) s i
 
-    module _ {tape : List ℕ} {start : ℕ} {predicted : List ℕ} where
-      tape-write-refused : {addr : ℕ} {bytes : List ℕ} {why : Refusal} {st′ : State} {log′ predicted′ : List ℕ}
-          → TapeWrites image st log tape start predicted addr bytes (answer.Refused why) st′ log′ predicted′ → Moved sheet here nothing (desk image st′ log′)
-      tape-write-refused {why = why} p = log-stays (refusal-not-done why) (sym (p .answers)) _ (p .state-after) _ (p .log-after)
+  cuts : (table : List ℕ) (at : ℕ) {st′ : State} {image′ : List ℕ} → st′ ≡ emptied st
+      → image′ ≡ flush-selective const-persistence-chunk-size (seen here) (rows-there const-persistence-chunk-size (seen here) table at)
+      → Keeps sheet here (cut-by table at) (desk image′ st′ log)
+  unfolding happen
+  cuts table at s i =
+      let rows = rows-there const-persistence-chunk-size (seen here) table at in
+      ends (rows, shaped-rows-crash const-persistence-chunk-size (seen here) rows (rows-at-shape _ _ table at)) refl s i
 
-      tape-write-moves : {work : List ℕ} {addr : ℕ} {bytes : List ℕ} → Admitted image st log sheet work addr bytes → (a : Answer) {st′ : State} {log′ predicted′ : List ℕ}
-          → TapeWrites image st log tape start predicted addr bytes a st′ log′ predicted′ → Moved sheet here (if-answered a (written addr bytes)) (desk image st′ log′)
-      tape-write-moves j answer.Done p =
-          let none = sym (p .answers) in
-          recorded j (changed _ _ (p .state-after) none) (changed _ _ (p .log-after) none)
-      tape-write-moves j (answer.Refused why) p = tape-write-refused p
+  flush-keeps : (a : Answer) {st′ : State} {image′ : List ℕ} → Flushes image st log a st′ image′ → Keeps sheet here (if-answered a flushed) (desk image′ st′ log)
+  flush-keeps answer.Done p =
+      let none = sym (p .answers) in
+      flushes (changed _ _ (p .state-after) none) (changed _ _ (p .image-after) none)
+  flush-keeps (answer.Refused why) p = image-stays sheet image st log h (refusal-not-done why) (sym (p .answers)) _ (p .state-after) _ (p .image-after)
 
-    -- endings: an image that a cut could leave, and an empty log
-    module _ (w : Whole here) where
-      module _ {st′ : State} {image′ : List ℕ} where
-        flushes : st′ ≡ emptied st → image′ ≡ readable (seen here) → Moved sheet here flushed (desk image′ st′ log)
-        unfolding happen
-        flushes s i =
-            leaves (ap₂ (λ (x : List ℕ) (t : State). desk x t log) i s)
-            (settles (cut-could-leave-the-read-image const-persistence-chunk-size (lit< tt) (seen here)) (flush-leaves-the-read-image (seen here)) refl (w .sized))
+  -- a table has a row for each record, which is one for each outstanding write
+  cut-keeps : {table : List ℕ} (a : CutAnswer) {st′ : State} {image′ : List ℕ} → Cuts image st log table a st′ image′
+      → Keeps sheet here (if-cut a (cut-by table 0)) (desk image′ st′ log)
+  cut-keeps {table} (cut-answer.Kept k) p =
+      let none = numbered (p .answers) in
+      let counted = writes-counted image st log (omega (arith, h .sized, h .facts .few)) in
+      cuts table 0 (changed _ _ (p .state-after) none)
+      (changed _ _ (p .image-after) none
+      ∙ ap (λ (n : ℕ). flush-selective const-persistence-chunk-size (seen here) (rows-at (chunks image) n table 0)) (sym counted))
+  cut-keeps (cut-answer.Refused why) p = image-stays sheet image st log h (refusal-not-done why) (numbered (p .answers)) _ (p .state-after) _ (p .image-after)
 
-        cuts : (table : List ℕ) (at : ℕ) → st′ ≡ emptied st → image′ ≡ flush-selective const-persistence-chunk-size (seen here) (rows-there const-persistence-chunk-size (seen here) table at)
-            → Moved sheet here (cut-by table at) (desk image′ st′ log)
-        unfolding happen
-        cuts table at s i =
-            let rows = rows-there const-persistence-chunk-size (seen here) table at in
-            leaves (ap₂ (λ (x : List ℕ) (t : State). desk x t log) i s)
-            (settles (rows, shaped-rows-crash const-persistence-chunk-size (seen here) rows (rows-at-shape _ _ table at)) refl refl (w .sized))
+  tape-flush-keeps : {tape : List ℕ} {start : ℕ} {predicted : List ℕ} (a : Answer) {st′ : State} {start′ : ℕ} {image′ predicted′ : List ℕ}
+      → TapeFlushes image st log tape start predicted a st′ start′ image′ predicted′ → Keeps sheet here (if-answered a flushed) (desk image′ st′ log)
+  tape-flush-keeps answer.Done p =
+      let none = sym (p .answers) in
+      flushes (changed _ _ (p .state-after) none) (changed _ _ (p .image-after) none)
+  tape-flush-keeps (answer.Refused why) p = image-stays sheet image st log h (refusal-not-done why) (sym (p .answers)) _ (p .state-after) _ (p .image-after)
 
-      -- the log has as many writes as the state has records
-      pub counted : length (seen here .outstanding-writes) ≡ st .count
-      counted = writes-counted image st log (omega (arith, w .sized, w .facts .few))
+  -- a cut that the tape foretells goes by the epoch's rows
+  tape-cut-keeps : {tape : List ℕ} {start : ℕ} {predicted : List ℕ} (a : CutAnswer) {st′ : State} {start′ : ℕ} {image′ predicted′ : List ℕ}
+      → TapeCuts image st log tape start predicted a st′ start′ image′ predicted′ → Keeps sheet here (if-cut a (cut-by tape (start + 1))) (desk image′ st′ log)
+  tape-cut-keeps {tape} {start} {predicted} (cut-answer.Kept k) p =
+      let none = numbered (p .answers) in
+      let ending = ending-done (length image) st (length log) (length predicted) false tape start none in
+      cuts tape (start + 1) (changed _ _ (p .state-after) none)
+      (changed _ _ (p .image-after) none ∙ predicted-cut const-persistence-chunk-size tape start (seen here) (ending .foretold))
+  tape-cut-keeps (cut-answer.Refused why) p = image-stays sheet image st log h (refusal-not-done why) (numbered (p .answers)) _ (p .state-after) _ (p .image-after)
 
-      flush-moves : (a : Answer) {st′ : State} {image′ : List ℕ} → Flushes image st log a st′ image′ → Moved sheet here (if-answered a flushed) (desk image′ st′ log)
-      flush-moves answer.Done p =
-          let none = sym (p .answers) in
-          flushes (changed _ _ (p .state-after) none) (changed _ _ (p .image-after) none)
-      flush-moves (answer.Refused why) p = image-stays (refusal-not-done why) (sym (p .answers)) _ (p .state-after) _ (p .image-after)
+  -- a reopening loses what was outstanding and leaves the image, whatever memory it is handed for state and log
+  reopened-keeps : {st₀ : State} {log₀ : List ℕ} {st′ : State} → Opens image st₀ log₀ sheet answer.Done st′ → Keeps sheet here reopened (desk image st′ log₀)
+  unfolding happen
+  reopened-keeps {st₀} {log₀} p =
+      settles sheet image st log h fresh (cut-could-leave-the-last-flush const-persistence-chunk-size (lit< tt) (seen here)) (ap settled (none-kept-leaves (seen here)))
+      (opened-fresh image st₀ log₀ sheet p refl) refl (opens-means image st₀ log₀ sheet p .0 refl .buffer)
 
-      cut-moves : {table : List ℕ} (a : CutAnswer) {st′ : State} {image′ : List ℕ} → Cuts image st log table a st′ image′
-          → Moved sheet here (if-cut a (cut-by table 0)) (desk image′ st′ log)
-      cut-moves {table} (cut-answer.Kept k) p =
-          let none = numbered (p .answers) in
-          cuts table 0 (changed _ _ (p .state-after) none)
-          (changed _ _ (p .image-after) none
-          ∙ ap (λ (n : ℕ). flush-selective const-persistence-chunk-size (seen here) (rows-at (chunks image) n table 0)) (sym counted))
-      cut-moves (cut-answer.Refused why) p = image-stays (refusal-not-done why) (numbered (p .answers)) _ (p .state-after) _ (p .image-after)
+  open-keeps : (a : Answer) {st′ : State} → Opens image st log sheet a st′ → Keeps sheet here (if-answered a reopened) (desk image st′ log)
+  open-keeps answer.Done p = reopened-keeps p
+  open-keeps (answer.Refused why) p =
+      unmoved sheet image st log h (ap (λ (t : State). desk image t log) (left _ _ (p .state-after) (refusal-not-done why) (sym (p .answers))))
 
-      module _ {tape : List ℕ} {start : ℕ} {predicted : List ℕ} where
-        tape-flush-moves : (a : Answer) {st′ : State} {start′ : ℕ} {image′ predicted′ : List ℕ} → TapeFlushes image st log tape start predicted a st′ start′ image′ predicted′
-            → Moved sheet here (if-answered a flushed) (desk image′ st′ log)
-        tape-flush-moves answer.Done p =
-            let none = sym (p .answers) in
-            flushes (changed _ _ (p .state-after) none) (changed _ _ (p .image-after) none)
-        tape-flush-moves (answer.Refused why) p = image-stays (refusal-not-done why) (sym (p .answers)) _ (p .state-after) _ (p .image-after)
-
-        tape-cut-moves : (a : CutAnswer) {st′ : State} {start′ : ℕ} {image′ predicted′ : List ℕ} → TapeCuts image st log tape start predicted a st′ start′ image′ predicted′
-            → Moved sheet here (if-cut a (cut-by tape (start + 1))) (desk image′ st′ log)
-        tape-cut-moves (cut-answer.Kept k) p =
-            let none = numbered (p .answers) in
-            let ending = ending-done (length image) st (length log) (length predicted) false tape start none in
-            cuts tape (start + 1) (changed _ _ (p .state-after) none)
-            (changed _ _ (p .image-after) none ∙ predicted-cut const-persistence-chunk-size tape start (seen here) (ending .foretold))
-        tape-cut-moves (cut-answer.Refused why) p = image-stays (refusal-not-done why) (numbered (p .answers)) _ (p .state-after) _ (p .image-after)
-
-      -- a reopening loses what was outstanding: the image stays
-      open-moves : (a : Answer) {st′ : State} → Opens image st log sheet a st′ → Moved sheet here (if-answered a reopened) (desk image st′ log)
-      unfolding happen
-      open-moves answer.Done p =
-          let v = seen here in
-          leaves (ap (λ (t : State). desk image t log) (changed _ _ (p .state-after) (sym (p .answers))))
-          (settles (cut-could-leave-the-last-flush const-persistence-chunk-size (lit< tt) v)
-          (ap settled (cut-that-keeps-nothing const-persistence-chunk-size (lit< tt) v (none-kept const-persistence-chunk-size v) (λ j c h k. nothing-kept (length (v .outstanding-writes)) (chunks image) j c)))
-          refl
-          refl)
-      open-moves (answer.Refused why) p =
-          leaves (ap (λ (t : State). desk image t log) (left _ _ (p .state-after) (refusal-not-done why) (sym (p .answers)))) stays
-
-  pub step-moves : {d : Desk} {e : Event} {d′ : Desk} → Whole d → Step sheet d e d′ → Moved sheet d e d′
-  step-moves w (run.gate {answer = a} p) = gate-moves _ _ _ a p
-  step-moves w (run.judge p) = stays
-  step-moves w (run.judged-write {answer = a} j p) = write-moves _ _ _ (judged _ _ _ j) a p
-  step-moves w (run.judged-tape-write {answer = a} j p) = tape-write-moves _ _ _ (judged _ _ _ j) a p
-  step-moves w (run.refused-write p) = write-refused _ _ _ p
-  step-moves w (run.refused-tape-write p) = tape-write-refused _ _ _ p
-  step-moves w (run.flush {answer = a} p) = flush-moves _ _ _ w a p
-  step-moves w (run.tape-flush {answer = a} p) = tape-flush-moves _ _ _ w a p
-  step-moves w (run.cut {answer = a} p) = cut-moves _ _ _ w a p
-  step-moves w (run.tape-cut {answer = a} p) = tape-cut-moves _ _ _ w a p
-  step-moves w (run.reopen {answer = a} p) = open-moves _ _ _ w a p
-  step-moves w (run.fill p) = stays
-  step-moves w (run.read p) = stays
+pub step-keeps : (sheet : List ℕ) {d : Desk} {e : Event} {d′ : Desk} → HoldsAt sheet d → Step sheet d e d′ → Keeps sheet d e d′
+step-keeps sheet h (run.gate {answer = a} p) = gate-keeps sheet _ _ _ h a p
+step-keeps sheet h (run.judge p) = stays sheet _ _ _ h
+step-keeps sheet h (run.judged-write {answer = a} j p) = write-keeps sheet _ _ _ h j a p
+step-keeps sheet h (run.judged-tape-write {answer = a} j p) = tape-write-keeps sheet _ _ _ h j a p
+step-keeps sheet h (run.refused-write p) = refused-write-keeps sheet _ _ _ h p
+step-keeps sheet h (run.refused-tape-write p) = refused-tape-write-keeps sheet _ _ _ h p
+step-keeps sheet h (run.flush {answer = a} p) = flush-keeps sheet _ _ _ h a p
+step-keeps sheet h (run.tape-flush {answer = a} p) = tape-flush-keeps sheet _ _ _ h a p
+step-keeps sheet h (run.cut {answer = a} p) = cut-keeps sheet _ _ _ h a p
+step-keeps sheet h (run.tape-cut {answer = a} p) = tape-cut-keeps sheet _ _ _ h a p
+step-keeps sheet h (run.reopen {answer = a} p) = open-keeps sheet _ _ _ h a p
+step-keeps sheet h (run.restart p) = reopened-keeps sheet _ _ _ h p
+step-keeps sheet h (run.fill p) = stays sheet _ _ _ h
+step-keeps sheet h (run.read p) = stays sheet _ _ _ h

@@ -1,46 +1,43 @@
 -- Demand 3 by tape. Along a run by tape the view and the epoch's start are those that the events and the tape tell: a write goes to the end of both
 -- logs, and both endings leave the image that the tape predicts. Assumes nothing.
 use Prim.Native.Nat.{ℕ, _+_}
-use native.Mathlib.Omega.{arith}
 use mathlib.Core.Path.{_≡_, refl, sym, ap, ap₂, _∙_}
-use mathlib.Core.Bool.{Bool, true, false}
 use mathlib.Core.List.{List}
-use lib.ListN.{length}
+use lib.ListN.{length, take}
 use Rattle.region.specs.Limits.{const-persistence-chunk-size}
-use Rattle.region.specs.Answer.{if-done}
 use Rattle.region.specs.declared.Answer.{Answer}
 use Rattle.region.specs.declared.Answer.the-variants as answer
 use Rattle.region.proofs.AnswerLaws.{refusal-not-done}
-use Rattle.replay.specs.AsyncSpec.{AsyncView, write, readable}
-use Rattle.cuts.specs.Bits.{chunks}
-use Rattle.cuts.proofs.Prophecy.{prophecy-of-nothing}
-use Rattle.writelog.specs.State.{emptied}
+use Rattle.replay.specs.AsyncSpec.{AsyncView, write}
+use Rattle.writelog.specs.State.{writes-of}
 use Rattle.writelog.specs.declared.state.State.{State}
 use Rattle.writelog.specs.declared.cut.CutAnswer.{CutAnswer}
 use Rattle.writelog.specs.declared.cut.CutAnswer.the-variants as cut-answer
+use Rattle.writelog.proofs.Views.{view-of-emptied}
 use Rattle.gate.specs.Opening.{fresh, Opens}
 use Rattle.gate.specs.Judgement.{Judges}
 use Rattle.gate.specs.declared.Verdict.the-variants.{Admitted}
-use Rattle.tape.specs.Epoch.{flush-foretold, row-place}
-use Rattle.tape.specs.Ending.{next-start}
+use Rattle.gate.proofs.Gives.{opened-fresh}
 use Rattle.tape.specs.Foretold.{predicted-image}
 use Rattle.tape.specs.Write.{TapeWrites}
 use Rattle.tape.specs.Flush.{TapeFlushes}
 use Rattle.tape.specs.Cut.{TapeCuts}
-use Rattle.tape.proofs.NumberLaws.{ending-done, tape-write-done}
-use Rattle.tape.proofs.PredictLaws.{predicted-flush}
+use Rattle.tape.proofs.Steps.{StepOfEnding, step-of-write, step-of-flush, step-of-cut}
 use Rattle.session.specs.History.{Event, nothing, written, flushed, cut-by, reopened, History, opening, _then_, if-answered, if-cut, settled, happen, replay}
 use Rattle.session.specs.Run as run
 use Rattle.session.specs.Run.{Desk, desk, seen, Step, Run}
-use Rattle.session.specs.TapeRun.{TapeStep, judged-write, flush, cut, reopen, other, TapeRun, opened, _and_}
+use Rattle.session.specs.TapeRun.{TapeStep, judged-write, flush, cut, reopen, other, TapeRun, opened, _and_, tape-throughout}
 use Rattle.session.specs.TapeTheorem.{Told, predicted-of, epoch-over, tell, replay-by-tape, prediction, TapeSession}
-use Rattle.session.proofs.Moves.{Whole, view-of-empty, moved-happens, recorded-is-write}
-use Rattle.session.proofs.Steps.{changed, left, numbered, counted, step-moves}
-use Rattle.session.proofs.Theorem.{Invariant, invariant, session}
+use Rattle.session.proofs.Keeps.{changed, left, HoldsAt}
+use Rattle.session.proofs.Steps.{numbered, step-keeps}
+use Rattle.session.proofs.Theorem.{invariant, session}
 
--- a step by tape is a step, and a run by tape a run
+abbrev C : ℕ
+C = const-persistence-chunk-size
+
 module _ (sheet tape : List ℕ) where
-  pub forget-step : {d : Desk} {start : ℕ} {e : Event} {d′ : Desk} {start′ : ℕ} → TapeStep sheet tape d start e d′ start′ → Step sheet d e d′
+  -- a step by tape is a step, and a run by tape a run
+  forget-step : {d : Desk} {start : ℕ} {e : Event} {d′ : Desk} {start′ : ℕ} → TapeStep sheet tape d start e d′ start′ → Step sheet d e d′
   forget-step (judged-write j p) = run.judged-tape-write j p
   forget-step (flush p) = run.tape-flush p
   forget-step (cut p) = run.tape-cut p
@@ -51,133 +48,101 @@ module _ (sheet tape : List ℕ) where
   forget (opened o) = run.opened o
   forget (r and s) = run._and_ (forget r) (forget-step s)
 
-  -- on an empty log the prediction is the image
-  predicted-of-nothing : (start : ℕ) (x : List ℕ) → predicted-image const-persistence-chunk-size tape start (settled x) ≡ x
-  predicted-of-nothing start x = ap (λ v. v .durable-state) (prophecy-of-nothing const-persistence-chunk-size (flush-foretold tape start) x _)
-
   abbrev now : Desk → ℕ → Told
   now d start = record { view = seen d; start = start }
 
-  -- nothing happened: the view and the start are what they were
-  still : {d : Desk} {start : ℕ} {d′ : Desk} {start′ : ℕ} → Whole d → Step sheet d nothing d′ → start′ ≡ start → now d′ start′ ≡ now d start
+  -- where nothing happened, view and start are what they were
+  still : {d : Desk} {start : ℕ} {d′ : Desk} {start′ : ℕ} → HoldsAt sheet d → Step sheet d nothing d′ → start′ ≡ start → now d′ start′ ≡ now d start
   unfolding happen
-  still w s same = ap₂ (λ (v : AsyncView) (a : ℕ). record { view = v; start = a }) (moved-happens sheet w (step-moves sheet w s)) same
+  still h s same = ap₂ (λ (v : AsyncView) (a : ℕ). record { view = v; start = a }) (step-keeps sheet h s .happened) same
 
-  module _ (image : List ℕ) (st : State) (log : List ℕ) (start : ℕ) (w : Whole (desk image st log)) where
+  module _ (image : List ℕ) (st : State) (log : List ℕ) (start : ℕ) (h : HoldsAt sheet (desk image st log)) where
     abbrev here : Told
     here = now (desk image st log) start
 
-    -- an accepted flush is one that the header foretells
-    flushed-as-predicted : {predicted : List ℕ} {st′ : State} {start′ : ℕ} {image′ predicted′ : List ℕ}
-        → TapeFlushes image st log tape start predicted answer.Done st′ start′ image′ predicted′ → readable (seen (desk image st log)) ≡ predicted-of const-persistence-chunk-size tape here
-    flushed-as-predicted {predicted} p =
-        let ending = ending-done (length image) st (length log) (length predicted) true tape start (sym (p .answers)) in
-        sym (predicted-flush const-persistence-chunk-size tape start (seen (desk image st log)) (ending .foretold))
-
-    ended : {st′ : State} {start′ : ℕ} {image′ : List ℕ} → st′ ≡ emptied st → start′ ≡ next-start (length image) st start → image′ ≡ predicted-of const-persistence-chunk-size tape here
-        → now (desk image′ st′ log) start′ ≡ epoch-over const-persistence-chunk-size tape here
-    ended {st′} {start′} {image′} s a i =
-        ap₂ (λ (v : AsyncView) (n : ℕ). record { view = v; start = n })
-        (view-of-empty image′ st′ log (ap (λ (t : State). t .count) s) ∙ ap settled i)
-        (a ∙ ap (row-place (chunks const-persistence-chunk-size (seen (desk image st log))) start) (sym (counted sheet image st log w)))
+    ending-tells : {predicted : List ℕ} {st′ : State} {start′ : ℕ} {image′ predicted′ : List ℕ} → StepOfEnding image st log tape start predicted (h .sized) st′ start′ image′ predicted′
+        → now (desk image′ st′ log) start′ ≡ epoch-over C tape here
+    ending-tells e = ap₂ (λ (v : AsyncView) (a : ℕ). record { view = v; start = a }) (e .view-after) (e .start-after)
 
     write-tells : {work : List ℕ} {addr : ℕ} {bytes : List ℕ} {n : ℕ} {work′ : List ℕ} {predicted : List ℕ} (a : Answer) {st′ : State} {log′ predicted′ : List ℕ}
         → Judges image st log sheet work addr bytes (Admitted n) work′
         → TapeWrites image st log tape start predicted addr bytes a st′ log′ predicted′
-        → now (desk image st′ log′) start ≡ tell const-persistence-chunk-size tape here (if-answered a (written addr bytes))
-    unfolding tell happen
-    write-tells answer.Done j p =
-        ap (λ (v : AsyncView). record { view = v; start = start }) (moved-happens sheet w (step-moves sheet w (run.judged-tape-write j p)))
-    write-tells (answer.Refused why) j p = still w (run.judged-tape-write j p) refl
+        → now (desk image st′ log′) start ≡ tell C tape here (if-answered a (written addr bytes))
+    unfolding tell
+    write-tells {predicted = predicted} answer.Done j p =
+        ap (λ (v : AsyncView). record { view = v; start = start }) (step-of-write image st log tape start predicted (h .sized) p (sym (p .answers)) .view-after)
+    write-tells (answer.Refused why) j p = still h (run.judged-tape-write j p) refl
 
     flush-tells : {predicted : List ℕ} (a : Answer) {st′ : State} {start′ : ℕ} {image′ predicted′ : List ℕ}
         → TapeFlushes image st log tape start predicted a st′ start′ image′ predicted′
-        → now (desk image′ st′ log) start′ ≡ tell const-persistence-chunk-size tape here (if-answered a flushed)
+        → now (desk image′ st′ log) start′ ≡ tell C tape here (if-answered a flushed)
     unfolding tell
-    flush-tells answer.Done p =
-        let none = sym (p .answers) in
-        ended (changed _ _ (p .state-after) none) (changed _ _ (p .start-after) none) (changed _ _ (p .image-after) none ∙ flushed-as-predicted p)
-    flush-tells (answer.Refused why) p = still w (run.tape-flush p) (left _ _ (p .start-after) (refusal-not-done why) (sym (p .answers)))
+    flush-tells {predicted} answer.Done p = ending-tells (step-of-flush image st log tape start predicted (h .sized) p (sym (p .answers)) .ending)
+    flush-tells (answer.Refused why) p = still h (run.tape-flush p) (left _ _ (p .start-after) (refusal-not-done why) (sym (p .answers)))
 
     cut-tells : {predicted : List ℕ} (a : CutAnswer) {st′ : State} {start′ : ℕ} {image′ predicted′ : List ℕ}
         → TapeCuts image st log tape start predicted a st′ start′ image′ predicted′
-        → now (desk image′ st′ log) start′ ≡ tell const-persistence-chunk-size tape here (if-cut a (cut-by tape (start + 1)))
+        → now (desk image′ st′ log) start′ ≡ tell C tape here (if-cut a (cut-by tape (start + 1)))
     unfolding tell
-    cut-tells (cut-answer.Kept k) p =
-        let none = numbered (p .answers) in
-        ended (changed _ _ (p .state-after) none) (changed _ _ (p .start-after) none) (changed _ _ (p .image-after) none)
-    cut-tells (cut-answer.Refused why) p = still w (run.tape-cut p) (left _ _ (p .start-after) (refusal-not-done why) (numbered (p .answers)))
+    cut-tells {predicted} (cut-answer.Kept k) p = ending-tells (step-of-cut image st log tape start predicted (h .sized) p (numbered (p .answers)) .ending)
+    cut-tells (cut-answer.Refused why) p = still h (run.tape-cut p) (left _ _ (p .start-after) (refusal-not-done why) (numbered (p .answers)))
 
-    -- on an empty log the view is the image before and after
+    -- on an empty log the view is the image alone, before and after
     open-tells : (a : Answer) {st′ : State} → st .count ≡ 0 → Opens image st log sheet a st′
-        → now (desk image st′ log) start ≡ tell const-persistence-chunk-size tape here (if-answered a reopened)
-    unfolding tell
+        → now (desk image st′ log) start ≡ tell C tape here (if-answered a reopened)
+    unfolding tell writes-of
     open-tells answer.Done {st′} empty p =
-        let new = changed fresh st (p .state-after) (sym (p .answers)) in
-        ap (λ (v : AsyncView). record { view = v; start = start })
-        (view-of-empty image st′ log (ap (λ (t : State). t .count) new) ∙ sym (view-of-empty image st log empty))
-    open-tells (answer.Refused why) empty p = still w (run.reopen p) refl
+        ap (λ (t : State). now (desk image t log) start) (opened-fresh image st log sheet p refl)
+        ∙ ap (λ (k : ℕ). record { view = record { state-at-last-flush = image; outstanding-writes = writes-of (take k (st .records)) log }; start = start }) (sym empty)
+    open-tells (answer.Refused why) empty p = still h (run.reopen p) refl
 
-  tells : {d : Desk} {start : ℕ} {e : Event} {d′ : Desk} {start′ : ℕ} → Whole d → TapeStep sheet tape d start e d′ start′
-      → now d′ start′ ≡ tell const-persistence-chunk-size tape (now d start) e
+  tells : {d : Desk} {start : ℕ} {e : Event} {d′ : Desk} {start′ : ℕ} → HoldsAt sheet d → TapeStep sheet tape d start e d′ start′
+      → now d′ start′ ≡ tell C tape (now d start) e
   unfolding tell
-  tells w (judged-write {start = start} {answer = a} j p) = write-tells _ _ _ start w a j p
-  tells w (flush {answer = a} p) = flush-tells _ _ _ _ w a p
-  tells w (cut {answer = a} p) = cut-tells _ _ _ _ w a p
-  tells w (reopen {start = start} {answer = a} empty p) = open-tells _ _ _ start w a empty p
-  tells w (other s) = still w s refl
+  tells h (judged-write {start = start} {answer = a} j p) = write-tells _ _ _ start h a j p
+  tells h (flush {answer = a} p) = flush-tells _ _ _ _ h a p
+  tells h (cut {answer = a} p) = cut-tells _ _ _ _ h a p
+  tells h (reopen {start = start} {answer = a} empty p) = open-tells _ _ _ start h a empty p
+  tells h (other s) = still h s refl
 
-  told : {image : List ℕ} {h : History} {d : Desk} {start : ℕ} → TapeRun sheet tape image h d start → now d start ≡ replay-by-tape const-persistence-chunk-size tape image h
+  told : {image : List ℕ} {h : History} {d : Desk} {start : ℕ} → TapeRun sheet tape image h d start → now d start ≡ replay-by-tape C tape image h
   unfolding replay replay-by-tape
-  told {image} (opened o) =
-      ap (λ (v : AsyncView). record { view = v; start = 0 }) (invariant sheet image (run.opened o) .replayed)
-  told {image} (_and_ {e = e} r s) =
-      tells (invariant sheet image (forget r) .whole) s ∙ ap (λ (t : Told). tell const-persistence-chunk-size tape t e) (told r)
+  told {image} (opened o) = ap (λ (v : AsyncView). record { view = v; start = 0 }) (invariant sheet image (run.opened o) .replayed)
+  told {image} (_and_ {e = e} r s) = tells (invariant sheet image (forget r) .holds) s ∙ ap (λ (t : Told). tell C tape t e) (told r)
 
   -- what the run says of the next accepted call by tape
   module _ {image : List ℕ} {h : History} {d : Desk} {start : ℕ} (r : TapeRun sheet tape image h d start) where
-    abbrev C : ℕ
-    C = const-persistence-chunk-size
-
-    w : Whole d
-    w = invariant sheet image (forget r) .whole
-
-    predicted-now-is : predicted-of C tape (now d start) ≡ prediction C tape image h
-    predicted-now-is = ap (predicted-of C tape) (told r)
+    holds : HoldsAt sheet d
+    holds = invariant sheet image (forget r) .holds
 
     write-is-predicted : {predicted : List ℕ} {addr : ℕ} {bytes : List ℕ} {st′ : State} {log′ predicted′ : List ℕ}
         → TapeWrites (d .image) (d .state) (d .log) tape start predicted addr bytes answer.Done st′ log′ predicted′
         → predicted′ ≡ prediction C tape image (h then written addr bytes)
     unfolding replay-by-tape tell
     write-is-predicted {predicted} {addr} {bytes} p =
-        let none = sym (p .answers) in
-        let fits = tape-write-done (d .image) (d .state) (d .log) tape start predicted addr (length bytes) none in
-        changed _ _ (p .predicted-after) none
-        ∙ ap (predicted-image C tape start) (recorded-is-write sheet d w addr bytes (fits .room .room))
+        step-of-write (d .image) (d .state) (d .log) tape start predicted (holds .sized) p (sym (p .answers)) .predicted-after
         ∙ ap (λ (t : Told). predicted-image C tape (t .start) (write (t .view) addr bytes)) (told r)
 
-    -- the next epoch begins with what was predicted
-    begins-with : (e : Event) → tell C tape (replay-by-tape C tape image h) e ≡ epoch-over C tape (replay-by-tape C tape image h)
-        → prediction C tape image h ≡ prediction C tape image (h then e)
-    unfolding replay-by-tape
-    begins-with e over = sym (ap (predicted-of C tape) over ∙ predicted-of-nothing _ (prediction C tape image h))
+    -- the image that was predicted, with which the next epoch begins
+    ending-is-predicted : {predicted : List ℕ} {st′ : State} {start′ : ℕ} {image′ predicted′ : List ℕ}
+        → StepOfEnding (d .image) (d .state) (d .log) tape start predicted (holds .sized) st′ start′ image′ predicted′
+        → (image′ ≡ prediction C tape image h) × (predicted′ ≡ predicted-of C tape (epoch-over C tape (replay-by-tape C tape image h)))
+    ending-is-predicted e = (
+      e .image-after ∙ ap (predicted-of C tape) (told r),
+      e .predicted-after ∙ ap (predicted-of C tape) (ending-tells (d .image) (d .state) (d .log) start holds e ∙ ap (epoch-over C tape) (told r)),
+    )
 
     flush-is-predicted : {predicted : List ℕ} {st′ : State} {start′ : ℕ} {image′ predicted′ : List ℕ}
         → TapeFlushes (d .image) (d .state) (d .log) tape start predicted answer.Done st′ start′ image′ predicted′
         → (image′ ≡ prediction C tape image h) × (predicted′ ≡ prediction C tape image (h then flushed))
-    unfolding tell
-    flush-is-predicted p =
-        let none = sym (p .answers) in
-        let as-predicted = flushed-as-predicted (d .image) (d .state) (d .log) start w p ∙ predicted-now-is in
-        (changed _ _ (p .image-after) none ∙ as-predicted, changed _ _ (p .predicted-after) none ∙ as-predicted ∙ begins-with flushed refl)
+    unfolding replay-by-tape tell
+    flush-is-predicted {predicted} p = ending-is-predicted (step-of-flush (d .image) (d .state) (d .log) tape start predicted (holds .sized) p (sym (p .answers)) .ending)
 
     cut-is-predicted : {predicted : List ℕ} {k : ℕ} {st′ : State} {start′ : ℕ} {image′ predicted′ : List ℕ}
         → TapeCuts (d .image) (d .state) (d .log) tape start predicted (cut-answer.Kept k) st′ start′ image′ predicted′
         → (image′ ≡ prediction C tape image h) × (predicted′ ≡ prediction C tape image (h then cut-by tape (start + 1)))
-    unfolding tell
-    cut-is-predicted p =
-        let none = numbered (p .answers) in
-        (changed _ _ (p .image-after) none ∙ predicted-now-is, changed _ _ (p .predicted-after) none ∙ predicted-now-is ∙ begins-with (cut-by tape (start + 1)) refl)
+    unfolding replay-by-tape tell
+    cut-is-predicted {predicted} p = ending-is-predicted (step-of-cut (d .image) (d .state) (d .log) tape start predicted (holds .sized) p (numbered (p .answers)) .ending)
 
     -- the theorem
     pub tape-session : TapeSession sheet tape image h d start
@@ -190,3 +155,9 @@ module _ (sheet tape : List ℕ) where
           flush-leaves-the-prediction = flush-is-predicted;
           cut-leaves-the-prediction = cut-is-predicted;
         }
+
+  -- and at every prefix
+  pub tape-session-throughout : {image : List ℕ} {h : History} {d : Desk} {start : ℕ} (r : TapeRun sheet tape image h d start) → tape-throughout sheet tape (TapeSession sheet tape image) r
+  unfolding tape-throughout
+  tape-session-throughout (opened o) = tape-session (opened o)
+  tape-session-throughout (r and s) = (tape-session-throughout r, tape-session (r and s))

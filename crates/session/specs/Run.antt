@@ -40,51 +40,53 @@ seen d = view (d .image) (d .state) (d .log)
 module _ (sheet : List ℕ) where
   pub data Step : Desk → Event → Desk → Type 0 where
     -- the gate: admitted, denied or refused
-    gate : {image : List ℕ} {st : State} {log work : List ℕ} {addr : ℕ} {bytes : List ℕ} {answer : Verdict} {st′ : State} {log′ work′ : List ℕ}
+    gate : {image log work bytes log′ work′ : List ℕ} {st st′ : State} {addr : ℕ} {answer : Verdict}
         → Gates image st log sheet work addr bytes answer st′ log′ work′
         → Step (desk image st log) (if-admitted answer (written addr bytes)) (desk image st′ log′)
     -- the judging call, whatever its verdict
-    judge : {image : List ℕ} {st : State} {log work : List ℕ} {addr : ℕ} {bytes : List ℕ} {answer : Verdict} {work′ : List ℕ}
+    judge : {image log work bytes work′ : List ℕ} {st : State} {addr : ℕ} {answer : Verdict}
         → Judges image st log sheet work addr bytes answer work′
         → Step (desk image st log) nothing (desk image st log)
     -- a write that a verdict in that same state admitted, whenever it was given: same image, state and log bytes, same address and bytes
-    judged-write : {image : List ℕ} {st : State} {log work : List ℕ} {addr : ℕ} {bytes : List ℕ} {n : ℕ} {work′ : List ℕ} {answer : Answer} {st′ : State} {log′ : List ℕ}
-        → Judges image st log sheet work addr bytes (Admitted n) work′
-        → Writes image st log addr bytes answer st′ log′
+    judged-write : {image log work bytes work′ log′ : List ℕ} {st st′ : State} {addr n : ℕ} {answer : Answer}
+        → Judges image st log sheet work addr bytes (Admitted n) work′ → Writes image st log addr bytes answer st′ log′
         → Step (desk image st log) (if-answered answer (written addr bytes)) (desk image st′ log′)
-    judged-tape-write : {image : List ℕ} {st : State} {log work : List ℕ} {addr : ℕ} {bytes : List ℕ} {n : ℕ} {work′ tape : List ℕ} {start : ℕ} {predicted : List ℕ} {answer : Answer} {st′ : State} {log′ predicted′ : List ℕ}
-        → Judges image st log sheet work addr bytes (Admitted n) work′
-        → TapeWrites image st log tape start predicted addr bytes answer st′ log′ predicted′
+    judged-tape-write : {image log work bytes work′ tape predicted log′ predicted′ : List ℕ} {st st′ : State} {addr n start : ℕ} {answer : Answer}
+        → Judges image st log sheet work addr bytes (Admitted n) work′ → TapeWrites image st log tape start predicted addr bytes answer st′ log′ predicted′
         → Step (desk image st log) (if-answered answer (written addr bytes)) (desk image st′ log′)
     -- a write that nobody judged, refused
-    refused-write : {image : List ℕ} {st : State} {log : List ℕ} {addr : ℕ} {bytes : List ℕ} {why : Refusal} {st′ : State} {log′ : List ℕ}
+    refused-write : {image log bytes log′ : List ℕ} {st st′ : State} {addr : ℕ} {why : Refusal}
         → Writes image st log addr bytes (Refused why) st′ log′
         → Step (desk image st log) nothing (desk image st′ log′)
-    refused-tape-write : {image : List ℕ} {st : State} {log tape : List ℕ} {start : ℕ} {predicted : List ℕ} {addr : ℕ} {bytes : List ℕ} {why : Refusal} {st′ : State} {log′ predicted′ : List ℕ}
+    refused-tape-write : {image log tape predicted bytes log′ predicted′ : List ℕ} {st st′ : State} {start addr : ℕ} {why : Refusal}
         → TapeWrites image st log tape start predicted addr bytes (Refused why) st′ log′ predicted′
         → Step (desk image st log) nothing (desk image st′ log′)
     -- flushes and cuts, done or refused, by any rows or tape
-    flush : {image : List ℕ} {st : State} {log : List ℕ} {answer : Answer} {st′ : State} {image′ : List ℕ}
+    flush : {image log image′ : List ℕ} {st st′ : State} {answer : Answer}
         → Flushes image st log answer st′ image′
         → Step (desk image st log) (if-answered answer flushed) (desk image′ st′ log)
-    tape-flush : {image : List ℕ} {st : State} {log tape : List ℕ} {start : ℕ} {predicted : List ℕ} {answer : Answer} {st′ : State} {start′ : ℕ} {image′ predicted′ : List ℕ}
+    tape-flush : {image log tape predicted image′ predicted′ : List ℕ} {st st′ : State} {start start′ : ℕ} {answer : Answer}
         → TapeFlushes image st log tape start predicted answer st′ start′ image′ predicted′
         → Step (desk image st log) (if-answered answer flushed) (desk image′ st′ log)
-    cut : {image : List ℕ} {st : State} {log table : List ℕ} {answer : CutAnswer} {st′ : State} {image′ : List ℕ}
+    cut : {image log table image′ : List ℕ} {st st′ : State} {answer : CutAnswer}
         → Cuts image st log table answer st′ image′
         → Step (desk image st log) (if-cut answer (cut-by table 0)) (desk image′ st′ log)
-    tape-cut : {image : List ℕ} {st : State} {log tape : List ℕ} {start : ℕ} {predicted : List ℕ} {answer : CutAnswer} {st′ : State} {start′ : ℕ} {image′ predicted′ : List ℕ}
+    tape-cut : {image log tape predicted image′ predicted′ : List ℕ} {st st′ : State} {start start′ : ℕ} {answer : CutAnswer}
         → TapeCuts image st log tape start predicted answer st′ start′ image′ predicted′
         → Step (desk image st log) (if-cut answer (cut-by tape (start + 1))) (desk image′ st′ log)
     -- a reopening under the same sheet, done or refused
-    reopen : {image : List ℕ} {st : State} {log : List ℕ} {answer : Answer} {st′ : State}
+    reopen : {image log : List ℕ} {st st′ : State} {answer : Answer}
         → Opens image st log sheet answer st′
         → Step (desk image st log) (if-answered answer reopened) (desk image st′ log)
-    -- reads, which fill the caller's buffer alone
-    fill : {image : List ℕ} {st : State} {log work : List ℕ} {addr len : ℕ} {answer : Answer} {work′ : List ℕ}
+    -- a good reopening that is handed other memory for the state and the log: after a power loss these hold anything
+    restart : {image log log₀ : List ℕ} {st st₀ st′ : State}
+        → Opens image st₀ log₀ sheet Done st′
+        → Step (desk image st log) reopened (desk image st′ log₀)
+    -- Reads, which fill the caller's buffer alone. The companion question and the viewer look, and promise nothing of memory afterwards.
+    fill : {image log work work′ : List ℕ} {st : State} {addr len : ℕ} {answer : Answer}
         → Fills image st log work addr len answer work′
         → Step (desk image st log) nothing (desk image st log)
-    read : {image : List ℕ} {st : State} {log : List ℕ} {work : RefT (List ℕ)} {addr len : ℕ} {part : RefT (List ℕ)}
+    read : {image log : List ℕ} {st : State} {work part : RefT (List ℕ)} {addr len : ℕ}
         → HandsBack image st log work addr len part
         → Step (desk image st log) nothing (desk image st log)
 

@@ -19,18 +19,18 @@ use Rattle.session.specs.Run.{Desk, desk, Step}
 module _ (sheet tape : List ℕ) where
   -- a desk and the epoch's start, before and after
   pub data TapeStep : Desk → ℕ → Event → Desk → ℕ → Type 0 where
-    judged-write : {image : List ℕ} {st : State} {log work : List ℕ} {addr : ℕ} {bytes : List ℕ} {n : ℕ} {work′ : List ℕ} {start : ℕ} {predicted : List ℕ} {answer : Answer} {st′ : State} {log′ predicted′ : List ℕ}
+    judged-write : {image log work bytes work′ predicted log′ predicted′ : List ℕ} {st st′ : State} {addr n start : ℕ} {answer : Answer}
         → Judges image st log sheet work addr bytes (Admitted n) work′
         → TapeWrites image st log tape start predicted addr bytes answer st′ log′ predicted′
         → TapeStep (desk image st log) start (if-answered answer (written addr bytes)) (desk image st′ log′) start
-    flush : {image : List ℕ} {st : State} {log : List ℕ} {start : ℕ} {predicted : List ℕ} {answer : Answer} {st′ : State} {start′ : ℕ} {image′ predicted′ : List ℕ}
+    flush : {image log predicted image′ predicted′ : List ℕ} {st st′ : State} {start start′ : ℕ} {answer : Answer}
         → TapeFlushes image st log tape start predicted answer st′ start′ image′ predicted′
         → TapeStep (desk image st log) start (if-answered answer flushed) (desk image′ st′ log) start′
-    cut : {image : List ℕ} {st : State} {log : List ℕ} {start : ℕ} {predicted : List ℕ} {answer : CutAnswer} {st′ : State} {start′ : ℕ} {image′ predicted′ : List ℕ}
+    cut : {image log predicted image′ predicted′ : List ℕ} {st st′ : State} {start start′ : ℕ} {answer : CutAnswer}
         → TapeCuts image st log tape start predicted answer st′ start′ image′ predicted′
         → TapeStep (desk image st log) start (if-cut answer (cut-by tape (start + 1))) (desk image′ st′ log) start′
     -- "a session by tape reopens only on an empty log", and "a reopening keeps" the start
-    reopen : {image : List ℕ} {st : State} {log : List ℕ} {start : ℕ} {answer : Answer} {st′ : State}
+    reopen : {image log : List ℕ} {st st′ : State} {start : ℕ} {answer : Answer}
         → st .count ≡ 0
         → Opens image st log sheet answer st′
         → TapeStep (desk image st log) start (if-answered answer reopened) (desk image st′ log) start
@@ -42,3 +42,7 @@ module _ (sheet tape : List ℕ) where
     _and_ : {h : History} {d : Desk} {start : ℕ} {e : Event} {d′ : Desk} {start′ : ℕ} → TapeRun image h d start → TapeStep d start e d′ start′ → TapeRun image (h then e) d′ start′
 
   infixl 10 _and_
+  -- at the end of the run and of each of its prefixes, back to the opening
+  unfoldable pub tape-throughout : {image : List ℕ} → (History → Desk → ℕ → Type 0) → {h : History} {d : Desk} {start : ℕ} → TapeRun image h d start → Type 0
+  tape-throughout P {h} {d} {start} (opened o) = P h d start
+  tape-throughout P {h} {d} {start} (r and s) = tape-throughout P r × P h d start
