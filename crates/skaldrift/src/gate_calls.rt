@@ -22,9 +22,10 @@ pub extern "C" fn skaldrift_open(state: &mut [u64], image: &[u8], log: &[u8], sh
     if state.len() != STATE_WORDS {
         return refusal_number(Refusal::BadState);
     }
-    let done = open(loaded(state), image, log, sheet);
-    stored(state, done.state);
-    let answer = done.answer;
+    let before = loaded(state);
+    let opened = open(before, image, log, sheet);
+    stored(state, opened.state);
+    let answer = opened.answer;
     answer_number(answer)
 }
 
@@ -62,7 +63,8 @@ pub extern "C" fn skaldrift_judge(
     if state.len() != STATE_WORDS {
         return refusal_number(Refusal::BadState);
     }
-    let verdict = judge(loaded(state), image, log, sheet, work, addr as usize, data);
+    let before = loaded(state);
+    let verdict = judge(before, image, log, sheet, work, addr as usize, data);
     verdict_number(verdict, report)
 }
 
@@ -83,8 +85,9 @@ pub extern "C" fn skaldrift_gate(
     if state.len() != STATE_WORDS {
         return refusal_number(Refusal::BadState);
     }
-    let done = gate(loaded(state), image, log, sheet, work, addr as usize, data);
-    stored(state, done.state);
-    let verdict = done.verdict;
+    let before = loaded(state);
+    let gated = gate(before, image, log, sheet, work, addr as usize, data);
+    stored(state, gated.state);
+    let verdict = gated.verdict;
     verdict_number(verdict, report)
 }

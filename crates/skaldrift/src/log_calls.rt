@@ -37,9 +37,10 @@ pub extern "C" fn skaldrift_write(
     if state.len() != STATE_WORDS {
         return refusal_number(Refusal::BadState);
     }
-    let done = write(loaded(state), image, log, addr as usize, data);
-    stored(state, done.state);
-    let answer = done.answer;
+    let before = loaded(state);
+    let written = write(before, image, log, addr as usize, data);
+    stored(state, written.state);
+    let answer = written.answer;
     answer_number(answer)
 }
 
@@ -58,7 +59,9 @@ pub extern "C" fn skaldrift_read(
     if state.len() != STATE_WORDS {
         return refusal_number(Refusal::BadState);
     }
-    answer_number(read_fill(loaded(state), image, log, work, addr as usize, len as usize))
+    let before = loaded(state);
+    let answer = read_fill(before, image, log, work, addr as usize, len as usize);
+    answer_number(answer)
 }
 
 // Makes the read image the image, and empties the log.
@@ -69,9 +72,10 @@ pub extern "C" fn skaldrift_flush(state: &mut [u64], image: &mut [u8], log: &[u8
     if state.len() != STATE_WORDS {
         return refusal_number(Refusal::BadState);
     }
-    let done = flush(loaded(state), image, log);
-    stored(state, done.state);
-    let answer = done.answer;
+    let before = loaded(state);
+    let flushed = flush(before, image, log);
+    stored(state, flushed.state);
+    let answer = flushed.answer;
     answer_number(answer)
 }
 
@@ -102,8 +106,9 @@ pub extern "C" fn skaldrift_cut(
     if state.len() != STATE_WORDS {
         return refusal_number(Refusal::BadState);
     }
-    let done = cut(loaded(state), image, log, rows);
-    stored(state, done.state);
-    let answer = done.answer;
+    let before = loaded(state);
+    let after = cut(before, image, log, rows);
+    stored(state, after.state);
+    let answer = after.answer;
     cut_number(answer, report)
 }

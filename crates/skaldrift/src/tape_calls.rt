@@ -28,8 +28,9 @@ pub extern "C" fn skaldrift_tape_write(
     if state.len() != STATE_WORDS {
         return refusal_number(Refusal::BadState);
     }
-    let done = tape_write(
-        loaded(state),
+    let before = loaded(state);
+    let written = tape_write(
+        before,
         image,
         log,
         tape,
@@ -38,8 +39,8 @@ pub extern "C" fn skaldrift_tape_write(
         addr as usize,
         data,
     );
-    stored(state, done.state);
-    let answer = done.answer;
+    stored(state, written.state);
+    let answer = written.answer;
     answer_number(answer)
 }
 
@@ -58,10 +59,11 @@ pub extern "C" fn skaldrift_tape_flush(
     if state.len() != STATE_WORDS {
         return refusal_number(Refusal::BadState);
     }
-    let done = tape_flush(loaded(state), image, log, tape, *start as usize, predicted);
-    stored(state, done.state);
-    *start = done.start as u64;
-    let answer = done.answer;
+    let before = loaded(state);
+    let flushed = tape_flush(before, image, log, tape, *start as usize, predicted);
+    stored(state, flushed.state);
+    *start = flushed.start as u64;
+    let answer = flushed.answer;
     answer_number(answer)
 }
 
@@ -81,9 +83,10 @@ pub extern "C" fn skaldrift_tape_cut(
     if state.len() != STATE_WORDS {
         return refusal_number(Refusal::BadState);
     }
-    let done = tape_cut(loaded(state), image, log, tape, *start as usize, predicted);
-    stored(state, done.state);
-    *start = done.start as u64;
-    let answer = done.answer;
+    let before = loaded(state);
+    let after = tape_cut(before, image, log, tape, *start as usize, predicted);
+    stored(state, after.state);
+    *start = after.start as u64;
+    let answer = after.answer;
     cut_number(answer, report)
 }
