@@ -1,9 +1,9 @@
--- `take_field` answers a field exactly where it ends within the sheet. Assumes nothing.
+-- `whole_field` answers a field exactly where it ends within the sheet. Assumes nothing.
 use native.Mathlib.Omega.{arith}
 use borrow.Author.Needs.{needs}
 use Rattle.sheet.proofs.Reading.{field-cut, field-there}
-use Rattle.sheet.proofs.bits.take_field.Statement.{statement}
-use Rattle.sheet.proofs.bits.take_field.Tie as tie
+use Rattle.sheet.proofs.bits.whole_field.Statement.{statement}
+use Rattle.sheet.proofs.bits.whole_field.Tie as tie
 
 past-the-end : tie.Need-returns
 past-the-end c = let a = c .before .before .args in rw (field-cut (a .width) (a .sheet .now) (a .at) (omega arith))
@@ -14,6 +14,6 @@ too-wide c = let a = c .before .before .before .args in rw (field-cut (a .width)
 there : tie.Need-returns-3
 there c = let a = c .before .before .before .before .args in rw (field-there (a .width) (a .sheet .now) (a .at) (omega arith), c .field-at .ensures)
 
-pub take-field-spec : {M : Type 1} → statement M
-take-field-spec =
+pub whole-field-spec : {M : Type 1} → statement M
+whole-field-spec =
     tie.close (tie.spec (λ c. search needs) past-the-end too-wide (λ c κs. search needs) (λ c. search needs) there)
