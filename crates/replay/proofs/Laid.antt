@@ -2,11 +2,7 @@
 -- (`update-is-lay`), a selective one those in selected chunks (by definition). A loop that has laid j bytes has `lay keep s addr (take j bytes)`,
 -- and one byte more is one store or none (`lay-more`). Assumes nothing.
 use Prim.Native.Nat.{ℕ, zero, suc, _+_, _-_, _≤_, _<_}
-<<<<<<< HEAD
 use native.Mathlib.Nat.{lt-of-lt-of-le, le-refl, eq-or-lt-of-le, add-sub-cancel-left, sub-zero, ne-of-lt, ne-of-gt, add-zero}
-=======
-use native.Mathlib.Nat.{sub-zero, lt-of-lt-of-le, le-refl, eq-or-lt-of-le, add-sub-cancel-left, ne-of-lt, ne-of-gt, add-zero}
->>>>>>> 7f44e811b40fad5ca5100a49f1ff9e2ddc36e8d5
 use native.Mathlib.Numerals.{add-one}
 use native.Mathlib.Decide.{decLt, ℕ-discrete}
 use native.Mathlib.Omega.{arith}
@@ -130,11 +126,7 @@ module _ (keep : ℕ → Bool) (s : List ℕ) (addr : ℕ) where
         (lay-new ∙ ap (λ (b : Bool). cond b (getD bytes j 0) (getD laid (addr + j) 0)) k))
         (λ ne. lay-other i g ne))
 
-<<<<<<< HEAD
 -- an image laid over another of its length takes its place
-=======
--- a write over the whole image leaves nothing of it
->>>>>>> 7f44e811b40fad5ca5100a49f1ff9e2ddc36e8d5
 pub update-whole : (s bytes : List ℕ) → length s ≡ length bytes → update-bytes s 0 bytes ≡ bytes
 update-whole s bytes e =
     update-is-lay s 0 bytes
