@@ -1,6 +1,6 @@
 -- The choice points of a log, one record at a time. Assumes nothing.
 use Prim.Native.Nat.{ℕ, _+_, _-_, _≤_, _<_}
-use native.Mathlib.Nat.{add-sub-cancel-left, sub-self}
+use native.Mathlib.Nat.{add-sub-cancel-left, sub-self, le-refl}
 use native.Mathlib.Omega.{arith}
 use mathlib.Core.Path.{_≡_, refl, ap, ap₂, _∙_}
 use mathlib.Core.Bool.{Bool, true}
@@ -11,12 +11,18 @@ use borrow.Author.Tests.{le-leb, leb-true}
 use Rattle.region.specs.Limits.{const-persistence-chunk-size}
 use Rattle.region.proofs.Booleans.{both, both-true}
 use Rattle.replay.specs.Choice.{touched, points}
-use Rattle.writelog.specs.State.{log-records, together, writes-of, records-inside}
+use Rattle.replay.specs.AsyncSpec.{write}
+use Rattle.cuts.specs.Bits.{new-write}
+use Rattle.cuts.specs.Number.{choice-points}
+use Rattle.cuts.proofs.Choices.{points-of-one-more}
+use Rattle.writelog.specs.State.{log-records, together, writes-of, records-inside, sound, view}
 use Rattle.writelog.specs.Log.{last-records, Remaining}
 use Rattle.writelog.specs.declared.state.Record.{Record}
 use Rattle.writelog.specs.declared.state.State.{State}
 use Rattle.writelog.proofs.Records.{next-and-rest}
 use Rattle.writelog.proofs.Walk.{oldest}
+use Rattle.writelog.proofs.KeptLaws.{touched-le}
+use Rattle.writelog.proofs.Soundness.{Sound, sound-facts}
 use Rattle.engine.specs.Count.{record-points}
 
 pub points-by-records : (C : ℕ) (rs : List Record) (log : List ℕ) → together rs ≤ length log → points C (writes-of rs log) ≡ record-points C rs
@@ -51,3 +57,17 @@ points-more L st n at left r p =
 -- all points of the log
 pub all-points : (C : ℕ) (st : State) → record-points C (last-records st (st .count)) ≡ record-points C (log-records st)
 all-points C st = ap (λ (k : ℕ). record-points C (drop k (log-records st))) (sub-self (st .count))
+
+-- a log has no more points than bytes
+pub record-points-le : (rs : List Record) → record-points const-persistence-chunk-size rs ≤ together rs
+unfolding record-points together
+record-points-le [] = le-refl 0
+record-points-le (r ∷ rs) = omega (arith, touched-le (r .addr) (r .len), record-points-le rs)
+
+-- the points of a sound log with one write more
+pub points-with-a-write : (image : List ℕ) (st : State) (log : List ℕ) (addr : ℕ) (bytes : List ℕ) → sound (length image) st (length log) ≡ true
+    → choice-points const-persistence-chunk-size (write (view image st log) addr bytes) ≡ record-points const-persistence-chunk-size (log-records st) + touched const-persistence-chunk-size addr (length bytes)
+points-with-a-write image st log addr bytes good =
+    let facts = sound-facts (length image) st (length log) good in
+    points-of-one-more const-persistence-chunk-size 0 (view image st log .outstanding-writes) (new-write addr bytes)
+    ∙ ap (λ (k : ℕ). k + touched const-persistence-chunk-size addr (length bytes)) (points-by-records const-persistence-chunk-size (log-records st) log (omega (arith, facts .room, facts .buffer)))

@@ -12,22 +12,18 @@ use lib.ListN.{length}
 use lib.Pow.{shl-exact}
 use Rattle.region.specs.Limits.{points-limit, const-persistence-chunk-size}
 use Rattle.replay.specs.AsyncSpec.{AsyncView, write}
-use Rattle.replay.specs.Choice.{touched}
-use Rattle.cuts.specs.Bits.{new-write}
 use Rattle.cuts.specs.Number.{choice-image, choice-points}
-use Rattle.cuts.proofs.Choices.{points-of-one-more}
 use Rattle.verdict.specs.Search.{Verdict, admit, deny, verdict-from}
 use Rattle.verdict.specs.Gate.{gate-test, gate-image}
 use Rattle.verdict.proofs.Search.{verdict-at-start, verdict-goes-on, verdict-stops, verdict-at-end}
 use Rattle.verdict.proofs.Gate.{last-trial-is-the-read-image}
 use Rattle.sheet.specs.Sheet.{obeys}
 use Rattle.sheet.proofs.Laws.{before-unseen}
-use Rattle.writelog.specs.State.{log-records, view}
+use Rattle.writelog.specs.State.{view}
 use Rattle.writelog.specs.declared.state.State.{State}
-use Rattle.writelog.proofs.Soundness.{Sound, sound-facts}
 use Rattle.engine.specs.declared.search.Outcome.the-variants.{AllGood, FirstBad}
 use Rattle.engine.specs.Search.{Ready, Searches, sheet-verdict, sheet-image}
-use Rattle.engine.proofs.PointLaws.{points-by-records}
+use Rattle.engine.proofs.PointLaws.{points-with-a-write}
 
 -- the numbers of few points fit a word
 pub numbers-exact : (n : ℕ) → n ≤ points-limit → 1 * 2 ^ n % 2 ^ 64 ≡ 2 ^ n
@@ -36,11 +32,7 @@ numbers-exact n h = shl-exact {a = 1} 1 n 64 (lit< tt) (omega arith) ∙ one-mul
 -- the points that an engine is told of are those of the log with the new write
 pub ready-points : (image : List ℕ) (st : State) (log : List ℕ) (work-length addr : ℕ) (bytes : List ℕ) (n : ℕ) → Ready (length image) st (length log) work-length addr (length bytes) n
     → choice-points const-persistence-chunk-size (write (view image st log) addr bytes) ≡ n
-ready-points image st log work-length addr bytes n r =
-    let facts = sound-facts (length image) st (length log) (r .good) in
-    points-of-one-more const-persistence-chunk-size 0 (view image st log .outstanding-writes) (new-write addr bytes)
-    ∙ ap (λ (k : ℕ). k + touched const-persistence-chunk-size addr (length bytes)) (points-by-records const-persistence-chunk-size (log-records st) log (omega (arith, facts .room, facts .buffer)))
-    ∙ sym (r .counted)
+ready-points image st log work-length addr bytes n r = points-with-a-write image st log addr bytes (r .good) ∙ sym (r .counted)
 
 module _ (v : AsyncView) (sheet : List ℕ) (addr : ℕ) (bytes : List ℕ) (n : ℕ) where
   abbrev pub trial-of : ℕ → List ℕ

@@ -1,3 +1,5 @@
+use Rattle.sheet.proofs.Laws.{malformed-iff, obeys-iff, breaks-iff}
+use mathlib.Core.Path.{_≡_, sym, _∙_}
 use borrow.Author.Needs.{needs}
 use Rattle.gate.proofs.judge.formed.Statement.{statement}
 use Rattle.gate.proofs.judge.formed.Tie as tie
@@ -23,15 +25,18 @@ enum-told-3 c = search needs
 
 -- src/judge.rt:21:1
 returns : tie.Need-returns
-returns c = ?
+returns c = let a = c .before .before .before .before .before .args in
+    sym (malformed-iff (a .sheet .now) (a .image .now) .0 (sym (c .before .before .judge .ensures) ∙ c .enum-told .given .1))
 
 -- src/judge.rt:21:1
 returns-2 : tie.Need-returns-2
-returns-2 c = ?
+returns-2 c = let a = c .before .before .before .before .before .args in
+    sym (obeys-iff (a .sheet .now) (a .image .now) (a .image .now) .0 (sym (c .before .before .judge .ensures) ∙ c .enum-told2 .given .1) .0)
 
 -- src/judge.rt:21:1
 returns-3 : tie.Need-returns-3
-returns-3 c = ?
+returns-3 c = let a = c .before .before .before .before .before .args in
+    sym (breaks-iff (a .sheet .now) (a .image .now) (a .image .now) .0 (sym (c .before .before .judge .ensures) ∙ c .enum-told3 .given .1) .0)
 
 pub formed-spec : {M : Type 1} → statement M
 formed-spec =

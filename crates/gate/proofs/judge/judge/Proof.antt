@@ -1,3 +1,7 @@
+-- The test of the state, and then the judging. Assumes nothing.
+use Rattle.gate.proofs.JudgementLaws.{judgement-unsound, judges-refused}
+use Rattle.writelog.proofs.Soundness.{Told, told-bytes, told-unsound}
+use Rattle.region.specs.declared.Refusal.the-variants.{BadState}
 use borrow.Author.Needs.{needs}
 use Rattle.gate.proofs.judge.judge.Statement.{statement}
 use Rattle.gate.proofs.judge.judge.Tie as tie
@@ -20,11 +24,15 @@ enum-told c = search needs
 
 -- src/judge.rt:93:9
 returns : tie.Need-returns
-returns c = ?
+returns c = let a = c .before .before .before .before .before .before .before .before .args in
+    judges-refused (a .image .now) (a .state) (a .log .now) (a .sheet .now) (a .work .now) (a .addr) (a .bytes .now) BadState (judgement-unsound (a .image .now) (a .state) (a .log .now) (a .sheet .now) (a .work .now) (a .addr) (a .bytes .now) (told-unsound _ (a .state) _ (c .before .before .checked .ensures .0) (c .enum-told .given .1)))
 
 -- src/judge.rt:95:5
 decide-requires : tie.Need-decide-requires
-decide-requires c κs = ?
+decide-requires c κs = let a = c .before .before .before .before .before .before .before .before .before .before .args in
+    let checked = c .before .before .before .before .checked in
+    let told = told-bytes _ (a .state) _ (checked .ensures .0) (c .before .before .used .given .1) in
+    record { sized = checked .ensures .1; good = told .good; counted = told .counted }
 
 -- src/judge.rt:81:1
 same-length : tie.Need-same-length

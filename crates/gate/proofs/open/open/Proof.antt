@@ -1,3 +1,8 @@
+-- An opening, test by test. Assumes nothing.
+use Rattle.gate.proofs.OpeningLaws.{open-long, open-other-log, open-malformed, open-broken, open-good, opens-done, opens-refused}
+use Rattle.sheet.proofs.Laws.{malformed-iff, obeys-iff, breaks-iff}
+use Rattle.region.specs.declared.Refusal.the-variants.{BadState, BadSheet, BrokenImage}
+use mathlib.Core.Path.{_≡_, sym, _∙_}
 use borrow.Author.Needs.{needs}
 use Rattle.gate.proofs.open.open.Statement.{statement}
 use Rattle.gate.proofs.open.open.Tie as tie
@@ -8,11 +13,13 @@ use Rattle.sheet.proofs.judge.Reads as judge-reads
 
 -- src/open.rt:33:9
 returns : tie.Need-returns
-returns c = ?
+returns c = let a = c .before .before .before .before .args in
+    opens-refused (a .image .now) (a .log .now) (a .sheet .now) (a .state) BadState (open-long (a .image .now) (a .log .now) (a .sheet .now) (c .if1 .taken))
 
 -- src/open.rt:39:9
 returns-2 : tie.Need-returns-2
-returns-2 c = ?
+returns-2 c = let a = c .before .before .before .before .before .args in
+    opens-refused (a .image .now) (a .log .now) (a .sheet .now) (a .state) BadState (open-other-log (a .image .now) (a .log .now) (a .sheet .now) (c .if2 .taken))
 
 -- src/open.rt:44:11
 judge-requires : tie.Need-judge-requires
@@ -36,15 +43,20 @@ fresh-requires c κs = search needs
 
 -- src/open.rt:29:1
 returns-3 : tie.Need-returns-3
-returns-3 c = ?
+returns-3 c = let a = c .before .before .before .before .before .before .before .before .args in
+    opens-refused (a .image .now) (a .log .now) (a .sheet .now) (a .state) BadSheet (open-malformed (a .image .now) (a .log .now) (a .sheet .now) (c .before .before .before .before .if1 .left) (c .before .before .before .if2 .left) (malformed-iff (a .sheet .now) (a .image .now) .0 (sym (c .before .before .judge .ensures) ∙ c .enum-told .given .1)))
 
 -- src/open.rt:29:1
 returns-4 : tie.Need-returns-4
-returns-4 c = ?
+returns-4 c = let a = c .before .before .before .before .before .before .before .before .args in
+    let broken = breaks-iff (a .sheet .now) (a .image .now) (a .image .now) .0 (sym (c .before .before .judge .ensures) ∙ c .enum-told2 .given .1) in
+    opens-refused (a .image .now) (a .log .now) (a .sheet .now) (a .state) BrokenImage (open-broken (a .image .now) (a .log .now) (a .sheet .now) (c .before .before .before .before .if1 .left) (c .before .before .before .if2 .left) (broken .0) (broken .1))
 
 -- src/open.rt:29:1
 returns-5 : tie.Need-returns-5
-returns-5 c = ?
+returns-5 c = let a = c .before .before .before .before .before .before .before .before .before .args in
+    let obeyed = obeys-iff (a .sheet .now) (a .image .now) (a .image .now) .0 (sym (c .before .before .before .judge .ensures) ∙ c .before .enum-told3 .given .1) in
+    opens-done (a .image .now) (a .log .now) (a .sheet .now) (a .state) (open-good (a .image .now) (a .log .now) (a .sheet .now) (c .before .before .before .before .before .if1 .left) (c .before .before .before .before .if2 .left) (obeyed .1)) (c .fresh .ensures)
 
 pub open-spec : {M : Type 1} → statement M
 open-spec =

@@ -1,0 +1,198 @@
+-- Which test gives a judgement its number, and what a judgement on all images tells: the write fits. Assumes nothing.
+use Prim.Native.Nat.{ℕ, zero, suc, _≤_, _<_}
+use native.Mathlib.Nat.{suc-ne-zero}
+use native.Mathlib.Omega.{arith}
+use mathlib.Core.Path.{_≡_, refl, sym, ap, _∙_}
+use mathlib.Core.Bool.{Bool, true, false, _&&_, and-false}
+use mathlib.Core.List.{List, [], _∷_}
+use lib.Dec.{leb, eqb}
+use lib.ListN.{length}
+use borrow.Author.Tests.{le-leb, lt-leb, leb-true, eq-eqb, ne-eqb, eqb-true}
+use Rattle.region.specs.Limits.{points-limit}
+use Rattle.region.specs.Answer.{Report, unless, refusal-number, if-done}
+use Rattle.region.specs.Pmemspec.{update-bytes}
+use Rattle.region.specs.declared.Refusal.{Refusal}
+use Rattle.region.specs.declared.Refusal.the-variants.{TooManyPoints}
+use Rattle.region.proofs.AnswerLaws.{done-changed, not-done, refusal-not-done}
+use Rattle.region.proofs.Booleans.{cond-when, cond-unless, and-unless, both, both-true}
+use Rattle.verdict.specs.Search as search
+use Rattle.sheet.specs.Sheet.{well-formed}
+use Rattle.writelog.specs.State.{log-records, together, view, sound, appended}
+use Rattle.writelog.specs.Write.{room-number}
+use Rattle.writelog.specs.declared.state.State.{State}
+use Rattle.engine.specs.declared.search.Outcome.{Outcome}
+use Rattle.engine.specs.declared.search.Outcome.the-variants.{AllGood, FirstBad}
+use Rattle.engine.specs.Search.{searched, sheet-verdict, sheet-image, Searches}
+use Rattle.gate.specs.declared.Verdict.{Verdict}
+use Rattle.gate.specs.declared.Verdict.the-variants.{Admitted, Denied, Refused}
+use Rattle.gate.specs.Judgement.{denied-number, verdict-report, Judgement, refused, tried, gate-points, weighed, fitted, judgement, judgement-report, judgement-work, judge-report, judge-number, Judges, Gates, Weighs}
+
+-- the tests of a judgement, as bare values
+abbrev tests : Bool → Bool → ℕ → Bool → search.Verdict → Judgement
+tests t₁ t₂ k t₃ r = unless t₁ (refused 1) (unless t₂ (refused 5) (if-done k (unless t₃ (refused 7) (tried r)) (refused k)))
+
+all-passed : (t₁ t₂ : Bool) (k : ℕ) (t₃ : Bool) (r r′ : search.Verdict) → tests t₁ t₂ k t₃ r ≡ tried r′ → (t₁ ≡ true) × (t₂ ≡ true) × (k ≡ 0) × (t₃ ≡ true) × (r′ ≡ r)
+all-passed true true zero true r r′ e = (refl, refl, refl, refl, cc)
+all-passed true true zero false r r′ e = let z : _≡_ {A = ℕ} 0 1 = cc in absurd (omega arith)
+all-passed true true (suc k) t₃ r r′ e = let z : _≡_ {A = ℕ} 0 1 = cc in absurd (omega arith)
+all-passed true false k t₃ r r′ e = let z : _≡_ {A = ℕ} 0 1 = cc in absurd (omega arith)
+all-passed false t₂ k t₃ r r′ e = let z : _≡_ {A = ℕ} 0 1 = cc in absurd (omega arith)
+
+-- no refusal has the number of a done call
+number-of : Judgement → ℕ
+number-of (refused why) = why
+number-of (tried r) = 1
+
+never-zero : (t₁ t₂ : Bool) (k : ℕ) (t₃ : Bool) (r : search.Verdict) → tests t₁ t₂ k t₃ r ≡ refused 0 → ⊥
+unfolding number-of
+never-zero true true zero true r e = suc-ne-zero 0 (ap number-of e)
+never-zero true true zero false r e = suc-ne-zero 6 (ap number-of e)
+never-zero true true (suc k) t₃ r e = suc-ne-zero k (ap number-of e)
+never-zero true false k t₃ r e = suc-ne-zero 4 (ap number-of e)
+never-zero false t₂ k t₃ r e = suc-ne-zero 0 (ap number-of e)
+
+module _ (image : List ℕ) (st : State) (log sheet work : List ℕ) (addr : ℕ) (bytes : List ℕ) where
+  abbrev pub J : Judgement
+  J = judgement image st log sheet work addr bytes
+
+  abbrev first : Bool
+  first = sound (length image) st (length log) && eqb (length work) (length image)
+
+  -- the write fits document 01's limits: every test up to 7 is passed
+  pub record Fits : Type 0 where
+    pub good : sound (length image) st (length log) ≡ true
+    pub same : length work ≡ length image
+    pub formed : well-formed sheet ≡ true
+    pub room : room-number (length image) st addr (length bytes) ≡ 0
+    pub few : gate-points image st log addr bytes ≤ points-limit
+
+  pub judgement-unsound : sound (length image) st (length log) ≡ false → J ≡ refused 1
+  unfolding judgement
+  judgement-unsound e = cond-unless first _ (refused 1) (and-unless _ _ e)
+
+  pub judgement-other-length : (length work ≡ length image → ⊥) → J ≡ refused 1
+  unfolding judgement
+  judgement-other-length n = cond-unless first _ (refused 1) (ap (λ (b : Bool). sound (length image) st (length log) && b) (ne-eqb (length work) (length image) n) ∙ and-false (sound (length image) st (length log)))
+
+  module _ (good : sound (length image) st (length log) ≡ true) (same : length work ≡ length image) where
+    first-passed : J ≡ unless (well-formed sheet) (refused 5) (fitted image st log sheet addr bytes)
+    unfolding judgement
+    first-passed = cond-when first _ (refused 1) (both-true good (eq-eqb (length work) (length image) same))
+
+    pub judgement-malformed : well-formed sheet ≡ false → J ≡ refused 5
+    judgement-malformed e = first-passed ∙ cond-unless (well-formed sheet) _ (refused 5) e
+
+    module _ (formed : well-formed sheet ≡ true) where
+      formed-passed : J ≡ fitted image st log sheet addr bytes
+      formed-passed = first-passed ∙ cond-when (well-formed sheet) _ (refused 5) formed
+
+      pub judgement-no-room : (why : Refusal) → room-number (length image) st addr (length bytes) ≡ refusal-number why → J ≡ refused (refusal-number why)
+      judgement-no-room why e =
+          formed-passed ∙ ap (λ (k : ℕ). if-done k (weighed image st log sheet addr bytes) (refused k)) e
+          ∙ not-done (refusal-number why) (weighed image st log sheet addr bytes) (refused (refusal-number why)) (refusal-not-done why)
+
+      pub judgement-room : room-number (length image) st addr (length bytes) ≡ 0 → J ≡ weighed image st log sheet addr bytes
+      judgement-room e = formed-passed ∙ ap (λ (k : ℕ). if-done k (weighed image st log sheet addr bytes) (refused k)) e
+
+  weighed-few : gate-points image st log addr bytes ≤ points-limit → weighed image st log sheet addr bytes ≡ tried (sheet-verdict sheet (view image st log) addr bytes)
+  weighed-few h = cond-when (leb (gate-points image st log addr bytes) points-limit) _ (refused 7) (le-leb (gate-points image st log addr bytes) points-limit h)
+
+  -- a write that fits is judged on all its images, and no other is
+  pub fitting-tried : Fits → J ≡ tried (sheet-verdict sheet (view image st log) addr bytes)
+  fitting-tried f = judgement-room (f .good) (f .same) (f .formed) (f .room) ∙ weighed-few (f .few)
+
+  pub tried-fits : (r : search.Verdict) → J ≡ tried r → Fits × (r ≡ sheet-verdict sheet (view image st log) addr bytes)
+  unfolding judgement
+  tried-fits r e =
+      let t = all-passed first (well-formed sheet) (room-number (length image) st addr (length bytes)) (leb (gate-points image st log addr bytes) points-limit) (sheet-verdict sheet (view image st log) addr bytes) r e in
+      let t₁ = both _ _ (t .0) in (
+        record { good = t₁ .0; same = eqb-true (length work) (length image) (t₁ .1); formed = t .1; room = t .2; few = leb-true (gate-points image st log addr bytes) points-limit (t .3) },
+        t .4,
+      )
+
+  not-refused-0 : J ≡ refused 0 → ⊥
+  unfolding judgement
+  not-refused-0 e = never-zero first (well-formed sheet) (room-number (length image) st addr (length bytes)) (leb (gate-points image st log addr bytes) points-limit) (sheet-verdict sheet (view image st log) addr bytes) e
+
+  -- number 0: the write fits and is admitted
+  pub number-0-fits : judge-number image st log sheet work addr bytes ≡ 0 → Fits × (sheet-verdict sheet (view image st log) addr bytes ≡ search.admit)
+  number-0-fits = go J refl
+    where
+      go : (j : Judgement) → J ≡ j → judgement-report (gate-points image st log addr bytes) j .number ≡ 0 → Fits × (sheet-verdict sheet (view image st log) addr bytes ≡ search.admit)
+      go (refused why) e z = absurd (not-refused-0 (e ∙ ap refused z))
+      go (tried search.admit) e z = let f = tried-fits search.admit e in (f .0, sym (f .1))
+      go (tried (search.deny m)) e z = absurd (suc-ne-zero 7 z)
+
+  -- the promises
+  pub judges-refused : (why : Refusal) → J ≡ refused (refusal-number why) → Judges image st log sheet work addr bytes (Refused why) work
+  judges-refused why e =
+      record {
+        answers = sym (ap (judgement-report (gate-points image st log addr bytes)) e);
+        work-after = sym (ap (λ (j : Judgement). judgement-work (view image st log) addr bytes j work) e);
+      }
+
+  pub judges-weighed : J ≡ weighed image st log sheet addr bytes → {answer : Verdict} {work′ : List ℕ} → Weighs image st log sheet work addr bytes answer work′ → Judges image st log sheet work addr bytes answer work′
+  judges-weighed e w =
+      record {
+        answers = w .answers ∙ sym (ap (judgement-report (gate-points image st log addr bytes)) e);
+        work-after = w .work-after ∙ sym (ap (λ (j : Judgement). judgement-work (view image st log) addr bytes j work) e);
+      }
+
+  pub weighs-many : points-limit < gate-points image st log addr bytes → Weighs image st log sheet work addr bytes (Refused TooManyPoints) work
+  weighs-many h =
+      let seven : weighed image st log sheet addr bytes ≡ refused 7 = cond-unless (leb (gate-points image st log addr bytes) points-limit) _ (refused 7) (lt-leb (gate-points image st log addr bytes) points-limit h) in
+      record {
+        answers = sym (ap (judgement-report (gate-points image st log addr bytes)) seven);
+        work-after = sym (ap (λ (j : Judgement). judgement-work (view image st log) addr bytes j work) seven);
+      }
+
+  module _ (few : gate-points image st log addr bytes ≤ points-limit) {outcome : Outcome} {work′ : List ℕ} (s : Searches (view image st log) sheet addr bytes outcome work′) where
+    tried-so : tried (searched outcome) ≡ weighed image st log sheet addr bytes
+    tried-so = ap tried (s .answers) ∙ sym (weighed-few few)
+
+    weighs-so : (answer : Verdict) → verdict-report answer ≡ judgement-report (gate-points image st log addr bytes) (tried (searched outcome)) → Weighs image st log sheet work addr bytes answer work′
+    weighs-so answer e =
+        record {
+          answers = e ∙ ap (judgement-report (gate-points image st log addr bytes)) tried-so;
+          work-after = s .work-after ∙ ap (λ (j : Judgement). judgement-work (view image st log) addr bytes j work) (sym (weighed-few few));
+        }
+
+    pub weighs-admitted : {n : ℕ} → outcome ≡ AllGood → n ≡ gate-points image st log addr bytes → Weighs image st log sheet work addr bytes (Admitted n) work′
+    weighs-admitted {n} o e = weighs-so (Admitted n) (ap (λ (k : ℕ). verdict-report (Admitted k)) e ∙ sym (ap (λ (x : Outcome). judgement-report (gate-points image st log addr bytes) (tried (searched x))) o))
+
+    pub weighs-denied : {m : ℕ} → outcome ≡ FirstBad m → Weighs image st log sheet work addr bytes (Denied m) work′
+    weighs-denied {m} o = weighs-so (Denied m) (sym (ap (λ (x : Outcome). judgement-report (gate-points image st log addr bytes) (tried (searched x))) o))
+
+  -- what is done with a judged write
+  module _ {answer : Verdict} {work′ : List ℕ} (j : Judges image st log sheet work addr bytes answer work′) where
+    number-is : verdict-report answer .number ≡ judge-number image st log sheet work addr bytes
+    number-is = ap (λ (r : Report). r .number) (j .answers)
+
+    pub admitted-number : {n : ℕ} → answer ≡ Admitted n → judge-number image st log sheet work addr bytes ≡ 0
+    admitted-number a = sym number-is ∙ ap (λ (v : Verdict). verdict-report v .number) a
+
+    pub gates-admitted : judge-number image st log sheet work addr bytes ≡ 0 → {st′ : State} {log′ : List ℕ} → st′ ≡ appended st addr (length bytes) → log′ ≡ update-bytes log (together (log-records st)) bytes
+        → Gates image st log sheet work addr bytes answer st′ log′ work′
+    gates-admitted none s l =
+        record {
+          answers = j .answers;
+          state-after = s ∙ done-changed (appended st addr (length bytes)) st none;
+          log-after = l ∙ done-changed (update-bytes log (together (log-records st)) bytes) log none;
+          work-after = j .work-after;
+        }
+
+    gates-left : 0 < verdict-report answer .number → Gates image st log sheet work addr bytes answer st log work′
+    gates-left h =
+        let some : 0 < judge-number image st log sheet work addr bytes = rw number-is at h in
+        record {
+          answers = j .answers;
+          state-after = sym (not-done (judge-number image st log sheet work addr bytes) (appended st addr (length bytes)) st some);
+          log-after = sym (not-done (judge-number image st log sheet work addr bytes) (update-bytes log (together (log-records st)) bytes) log some);
+          work-after = j .work-after;
+        }
+
+    pub gates-denied : {m : ℕ} → answer ≡ Denied m → Gates image st log sheet work addr bytes answer st log work′
+    gates-denied d = gates-left (rw d (omega arith))
+
+    pub gates-refused : {why : Refusal} → answer ≡ Refused why → Gates image st log sheet work addr bytes answer st log work′
+    gates-refused {why} d = gates-left (rw d (refusal-not-done why))
