@@ -4,6 +4,7 @@ pub mod Records
 pub mod Soundness
 pub mod Walk
 pub mod WriteLaws
+pub mod Views
 pub mod ReadLaws
 pub mod FlushLaws
 pub mod KeptLaws

@@ -1,0 +1,65 @@
+use borrow.Author.Needs.{needs}
+use Rattle.example.proofs.round.round.Statement.{statement}
+use Rattle.example.proofs.round.round.Tie as tie
+use Rattle.example.proofs.round.round.Reads as reads
+use Rattle.example.proofs.round.round.Lts as lts
+use Rattle.example.proofs.round.pair.Reads as pair-reads
+
+-- src/round.rt:94:9
+pair-requires : tie.Need-pair-requires
+pair-requires c κs = search needs
+
+enum-told : tie.Need-enum-told
+enum-told c = search needs
+
+-- src/round.rt:98:9
+same-length : tie.Need-same-length
+same-length c = search needs
+
+-- src/round.rt:98:9
+same-length-2 : tie.Need-same-length-2
+same-length-2 c = search needs
+
+-- src/round.rt:98:9
+same-length-3 : tie.Need-same-length-3
+same-length-3 c = search needs
+
+-- src/round.rt:98:9
+returns : tie.Need-returns
+returns c = ?
+
+-- src/round.rt:103:5
+pair-requires-2 : tie.Need-pair-requires-2
+pair-requires-2 c κs = ?
+
+-- src/round.rt:81:1
+same-length-4 : tie.Need-same-length-4
+same-length-4 c = search needs
+
+-- src/round.rt:81:1
+same-length-5 : tie.Need-same-length-5
+same-length-5 c = search needs
+
+-- src/round.rt:81:1
+same-length-6 : tie.Need-same-length-6
+same-length-6 c = search needs
+
+-- src/round.rt:81:1
+returns-2 : tie.Need-returns-2
+returns-2 c = ?
+
+pub round-spec : {M : Type 1} → statement M
+round-spec =
+    tie.close
+    (tie.spec
+    pair-requires
+    enum-told
+    same-length
+    same-length-2
+    same-length-3
+    returns
+    pair-requires-2
+    same-length-4
+    same-length-5
+    same-length-6
+    returns-2)
