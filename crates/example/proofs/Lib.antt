@@ -3,3 +3,5 @@
 pub mod SheetLaws
 pub mod ByteLog
 pub mod StepLaws
+pub mod NumberLaws
+pub mod Arms

@@ -1,6 +1,7 @@
 -- The steps of a run, from the promises of the gate and the flush: the log has written one-byte writes of the two values at the address, so the gate
 -- admits one more, and a flush leaves the last value. Assumes nothing.
 use Prim.Native.Nat.{ℕ, zero, suc, _+_, _≤_, _<_}
+use native.Mathlib.Numerals.{add-one}
 use native.Mathlib.Omega.{arith}
 use mathlib.Core.Path.{_≡_, refl, sym, ap, ap₂, subst, subst⁻¹, _∙_}
 use mathlib.Core.Bool.{Bool, true, false, _&&_, _||_, or-true, or-comm}
@@ -36,7 +37,8 @@ use Rattle.gate.proofs.JudgementLaws.{admitted-number}
 use Rattle.gate.proofs.Meaning.{gate-judges, gate-means}
 use Rattle.gate.proofs.Gives.{gated-holds}
 use Rattle.example.specs.Valid.{one-of, valid}
-use Rattle.example.specs.Steps.{Idle, Under, Goes}
+use Rattle.example.specs.Steps.{Idle, Under, Goes, Repeats}
+use Rattle.example.specs.Run.{if-any-round, last-writes}
 use Rattle.example.specs.declared.RunAnswer.{RunAnswer}
 use Rattle.example.specs.declared.RunAnswer.the-variants.{Done}
 use Rattle.example.proofs.ByteLog.{byte-laid, byte-writes, byte-log, byte-writes-last, byte-points, last-read, all-of, left-valid, cut-leaves-a-value}
@@ -199,20 +201,19 @@ module _ (image : List ℕ) (st : State) (log sheet work : List ℕ) (addr a b :
             work-after = g₂ .work-after;
           }
 
--- a round: two pairs, the second the other way round
-module _ (image : List ℕ) (st : State) (log sheet work : List ℕ) (addr a b : ℕ) (u : Under image st log sheet work addr a b) where
-  module _ {answer : RunAnswer} {st₁ : State} {image₁ log₁ work₁ : List ℕ} (g : Goes image log addr a b answer st₁ image₁ log₁ work₁) where
-    pub under-after : Under image₁ st₁ log₁ sheet work₁ addr a b
-    under-after =
-        let long : length image₁ ≡ length image = ap length (g .image-after) ∙ length-set image addr b in
-        record {
-          idle = g .idle;
-          short = rw long (u .short);
-          buffer = ap length (g .log-after) ∙ length-set (set log 0 a) 1 b ∙ length-set log 0 a ∙ u .buffer;
-          same = ap length (g .work-after ∙ sym (g .image-after));
-          good = ap (valid addr a b) (g .image-after) ∙ set-valid addr a b b image (valid-lies addr a b image (u .good)) (second-value a b);
-          says = u .says;
-        }
+-- what goes on under the sheet is under the sheet again
+pub under-after : {image : List ℕ} {st : State} {log sheet work : List ℕ} {addr a b : ℕ} → Under image st log sheet work addr a b
+    → {x y : ℕ} {answer : RunAnswer} {st₁ : State} {image₁ log₁ work₁ : List ℕ} → Goes image log addr x y answer st₁ image₁ log₁ work₁ → one-of a b y ≡ true → Under image₁ st₁ log₁ sheet work₁ addr a b
+under-after {image} {st} {log} {sheet} {work} {addr} {a} {b} u {x} {y} g one =
+    let long = ap length (g .image-after) ∙ length-set image addr y in
+    record {
+      idle = g .idle;
+      short = rw long (u .short);
+      buffer = ap length (g .log-after) ∙ length-set (set log 0 x) 1 y ∙ length-set log 0 x ∙ u .buffer;
+      same = ap length (g .work-after ∙ sym (g .image-after));
+      good = ap (valid addr a b) (g .image-after) ∙ set-valid addr a b y image (valid-lies addr a b image (u .good)) one;
+      says = u .says;
+    }
 
 pub under-turned : {image : List ℕ} {st : State} {log sheet work : List ℕ} {addr a b : ℕ} → Under image st log sheet work addr a b → Under image st log sheet work addr b a
 under-turned {image} {st} {log} {sheet} {work} {addr} {a} {b} u =
@@ -225,20 +226,62 @@ under-turned {image} {st} {log} {sheet} {work} {addr} {a} {b} u =
       says = λ before after. u .says before after ∙ valid-turned addr a b after;
     }
 
--- two writes over two writes leave the last two
-pub pair-over-pair : (log : List ℕ) (a b : ℕ) → set (set (set (set log 0 a) 1 b) 0 b) 1 a ≡ set (set log 0 b) 1 a
-pair-over-pair [] a b = refl
-pair-over-pair (x ∷ []) a b = refl
-pair-over-pair (x ∷ y ∷ log) a b = refl
+-- two bytes over two bytes
+pub pair-over-pair : (log : List ℕ) (a b x y : ℕ) → set (set (set (set log 0 a) 1 b) 0 x) 1 y ≡ set (set log 0 x) 1 y
+pair-over-pair [] a b x y = refl
+pair-over-pair (l ∷ []) a b x y = refl
+pair-over-pair (l ∷ m ∷ log) a b x y = refl
 
-pub round-goes : {image log : List ℕ} {addr a b : ℕ} {first : RunAnswer} {st₁ : State} {image₁ log₁ work₁ : List ℕ} → Goes image log addr a b first st₁ image₁ log₁ work₁
-    → {answer : RunAnswer} {st′ : State} {image′ log′ work′ : List ℕ} → Goes image₁ log₁ addr b a answer st′ image′ log′ work′ → Goes image log addr b a answer st′ image′ log′ work′
-round-goes {image} {log} {addr} {a} {b} g h =
-    let over = ap (λ (s : List ℕ). set s addr a) (g .image-after) ∙ set-set image addr b a in
+-- what goes twice has gone once, by the last values
+pub goes-on : {image log : List ℕ} {addr a b x y : ℕ} {first : RunAnswer} {st₁ : State} {image₁ log₁ work₁ : List ℕ} → Goes image log addr a b first st₁ image₁ log₁ work₁
+    → {answer : RunAnswer} {st′ : State} {image′ log′ work′ : List ℕ} → Goes image₁ log₁ addr x y answer st′ image′ log′ work′ → Goes image log addr x y answer st′ image′ log′ work′
+goes-on {image} {log} {addr} {a} {b} {x} {y} g h =
+    let over = ap (λ (s : List ℕ). set s addr y) (g .image-after) ∙ set-set image addr b y in
     record {
       answers = h .answers;
       idle = h .idle;
       image-after = h .image-after ∙ over;
-      log-after = h .log-after ∙ ap (λ (l : List ℕ). set (set l 0 b) 1 a) (g .log-after) ∙ pair-over-pair log a b;
+      log-after = h .log-after ∙ ap (λ (l : List ℕ). set (set l 0 x) 1 y) (g .log-after) ∙ pair-over-pair log a b x y;
       work-after = h .work-after ∙ over;
     }
+
+-- the rounds
+module _ (image log work : List ℕ) (addr val0 val1 : ℕ) where
+  pub repeats-none : Repeats image log work addr val0 val1 0 Done image log work
+  repeats-none = record { answers = refl; image-after = refl; log-after = refl; work-after = refl }
+
+  -- one more
+  pub repeats-more : (n : ℕ) {image₁ log₁ work₁ : List ℕ} → Repeats image log work addr val0 val1 n Done image₁ log₁ work₁
+      → {answer : RunAnswer} {st′ : State} {image′ log′ work′ : List ℕ} → Goes image₁ log₁ addr val1 val0 answer st′ image′ log′ work′ → Repeats image log work addr val0 val1 (n + 1) Done image′ log′ work′
+  repeats-more n r g =
+      let long = add-one n in
+      let image-again = ap (λ (s : List ℕ). set s addr val0) (r .image-after) ∙ again n in
+      record {
+        answers = refl;
+        image-after = rw long (g .image-after ∙ image-again);
+        log-after = rw long (g .log-after ∙ ap (λ (l : List ℕ). last-writes l val0 val1) (r .log-after) ∙ log-again n);
+        work-after = rw long (g .work-after ∙ image-again);
+      }
+    where
+      again : (k : ℕ) → set (if-any-round k (set image addr val0) image) addr val0 ≡ set image addr val0
+      again zero = refl
+      again (suc k) = set-set image addr val0 val0
+
+      log-again : (k : ℕ) → last-writes (if-any-round k (last-writes log val0 val1) log) val0 val1 ≡ last-writes log val0 val1
+      log-again zero = refl
+      log-again (suc k) = pair-over-pair log val1 val0 val1 val0
+
+  -- they keep the lengths
+  module _ (n : ℕ) {answer : RunAnswer} {image′ log′ work′ : List ℕ} (r : Repeats image log work addr val0 val1 n answer image′ log′ work′) where
+    kept-length : (k : ℕ) (after before : List ℕ) → length after ≡ length before → length (if-any-round k after before) ≡ length before
+    kept-length zero after before e = refl
+    kept-length (suc k) after before e = e
+
+    pub image-length : length image′ ≡ length image
+    image-length = ap length (r .image-after) ∙ kept-length n (set image addr val0) image (length-set image addr val0)
+
+    pub log-length : length log′ ≡ length log
+    log-length = ap length (r .log-after) ∙ kept-length n (last-writes log val0 val1) log (length-set (set log 0 val1) 1 val0 ∙ length-set log 0 val1)
+
+    pub work-length : length work ≡ length image → length work′ ≡ length work
+    work-length same = ap length (r .work-after) ∙ kept-length n (set image addr val0) work (length-set image addr val0 ∙ sym same)

@@ -1,9 +1,19 @@
+-- `example::round::round` meets its contract: two pairs, the second the other way round, each under the sheet (`StepLaws`). Assumes nothing.
+use Rattle.example.proofs.Arms.{done-goes-on}
+use Rattle.example.proofs.StepLaws.{second-value, under-after, under-turned, goes-on}
 use borrow.Author.Needs.{needs}
 use Rattle.example.proofs.round.round.Statement.{statement}
 use Rattle.example.proofs.round.round.Tie as tie
 use Rattle.example.proofs.round.round.Reads as reads
 use Rattle.example.proofs.round.round.Lts as lts
 use Rattle.example.proofs.round.pair.Reads as pair-reads
+
+-- the places: the start and the first pair
+abbrev start : tie.After-pair → tie.Start
+start c = c .before .before .before .before .before .before .before .before
+
+abbrev first-pair : tie.After-pair2 → tie.After-pair
+first-pair c = c .before .before .before .before .before .before .before .before .before .before .before .before .before
 
 -- src/round.rt:94:9
 pair-requires : tie.Need-pair-requires
@@ -26,11 +36,13 @@ same-length-3 c = search needs
 
 -- src/round.rt:98:9
 returns : tie.Need-returns
-returns c = ?
+returns c = absurd (done-goes-on (c .before .before .before .before .before .before .before .before .pair .ensures .answers) (c .match .keys2))
 
 -- src/round.rt:103:5
 pair-requires-2 : tie.Need-pair-requires-2
-pair-requires-2 c κs = ?
+pair-requires-2 c κs = let there = c .before .before .before .before .before .before .before .before .before .before .before .before in
+    let a = start there .args in
+    under-turned (under-after (start there .pre) (there .pair .ensures) (second-value (a .val0) (a .val1)))
 
 -- src/round.rt:81:1
 same-length-4 : tie.Need-same-length-4
@@ -46,7 +58,8 @@ same-length-6 c = search needs
 
 -- src/round.rt:81:1
 returns-2 : tie.Need-returns-2
-returns-2 c = ?
+returns-2 c = let back = c .before .before .before .before .before .before in
+    goes-on (first-pair back .pair .ensures) (back .pair2 .ensures)
 
 pub round-spec : {M : Type 1} → statement M
 round-spec =
