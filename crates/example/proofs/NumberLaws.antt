@@ -9,16 +9,22 @@ use lib.Dec.{leb, eqb}
 use lib.ListN.{length, set}
 use borrow.Author.Tests.{le-leb, lt-leb, leb-true, eq-eqb, ne-eqb, eqb-true}
 use Rattle.region.specs.Limits.{image-limit, log-limit}
-use Rattle.region.specs.Answer.{unless, refusal-number}
+use Rattle.region.specs.Answer.{unless, answer-number, refusal-number}
+use Rattle.region.specs.declared.Answer.{Answer}
 use Rattle.region.specs.declared.Refusal.{Refusal}
 use Rattle.region.specs.declared.Answer.the-variants as answers
 use Rattle.region.proofs.AnswerLaws.{done-changed, refused-left, refusal-not-done}
 use Rattle.region.proofs.Booleans.{both, cond-when, cond-unless}
 use Rattle.writelog.proofs.WriteLaws.{passed}
+use Rattle.writelog.specs.declared.state.State.{State}
+use Rattle.sheet.specs.Sheet.{well-formed, obeys}
+use Rattle.gate.specs.Opening.{open-number, Opens}
+use Rattle.gate.proofs.OpeningLaws.{open-good, open-broken}
+use Rattle.gate.proofs.Gives.{opens-means, opened-fresh}
 use Rattle.example.specs.Valid.{valid}
 use Rattle.example.specs.Setup.{setup-number, SetsUp}
 use Rattle.example.specs.Run.{rounds-limit, run-number, run-answer-number, if-any-round, last-writes, Runs}
-use Rattle.example.specs.Steps.{fits-number, Repeats}
+use Rattle.example.specs.Steps.{fits-number, Under, Repeats}
 use Rattle.example.specs.declared.RunAnswer.{RunAnswer}
 use Rattle.example.specs.declared.RunAnswer.the-variants.{Done, Refused}
 
@@ -147,3 +153,34 @@ module _ (image log work : List ℕ) (addr val0 val1 rounds : ℕ) where
         log-after = r .log-after ∙ done-changed (if-any-round rounds (last-writes log val0 val1) log) log none;
         work-after = r .work-after ∙ done-changed (if-any-round rounds (set image addr val0) work) work none;
       }
+
+-- the opening of a run, under a sheet that says `valid`
+module _ (image log work sheet : List ℕ) (addr val0 val1 rounds : ℕ) (f : Fit (length image) (length log) (length work) addr rounds) (formed : well-formed sheet ≡ true)
+    (says : (before after : List ℕ) → obeys sheet before after ≡ valid addr val0 val1 after) where
+  pub opening-decides : open-number image log sheet ≡ run-number image log work addr val0 val1 rounds
+  opening-decides = go (valid addr val0 val1 image) refl
+    where
+      go : (b : Bool) → valid addr val0 val1 image ≡ b → open-number image log sheet ≡ run-number image log work addr val0 val1 rounds
+      go true e = open-good image log sheet (f .short) (f .buffer) (says image image ∙ e) ∙ sym (run-good image log work addr val0 val1 rounds f e)
+      go false e = open-broken image log sheet (f .short) (f .buffer) formed (says image image ∙ e) ∙ sym (run-broken image log work addr val0 val1 rounds f e)
+
+  module _ {st : State} {answer : Answer} {st′ : State} (o : Opens image st log sheet answer st′) where
+    pub opening-refused : {why : Refusal} → answer ≡ answers.Refused why → Runs image log work addr val0 val1 rounds (Refused why) image log work
+    opening-refused {why} e = runs-refused image log work addr val0 val1 rounds why (sym opening-decides ∙ sym (o .answers) ∙ ap answer-number e)
+
+    pub opening-good : answer ≡ answers.Done → Under image st′ log sheet work addr val0 val1
+    opening-good d =
+        let good = opens-means image st log sheet o .0 d in
+        let state = opened-fresh image st log sheet o d in
+        record {
+          idle = record { sized = ap (λ (s : State). length (s .records)) state; empty = ap (λ (s : State). s .count) state };
+          short = f .short;
+          buffer = f .buffer;
+          same = f .same;
+          good = sym (says image image) ∙ good .obeyed;
+          says = says;
+        }
+
+    pub run-goes : answer ≡ answers.Done → {done : RunAnswer} {image′ log′ work′ : List ℕ} → Repeats image log work addr val0 val1 rounds done image′ log′ work′
+        → Runs image log work addr val0 val1 rounds done image′ log′ work′
+    run-goes d r = runs-done image log work addr val0 val1 rounds (sym opening-decides ∙ sym (o .answers) ∙ ap answer-number d) r

@@ -11,7 +11,7 @@ use lib.Dec.{leb, ltb, eqb}
 use lib.ListN.{length, getD}
 use borrow.Author.Tests.{le-leb, lt-leb, eq-eqb, ne-eqb}
 use Rattle.sheet.specs.Sheet.{Found, got, address-bits, byte-bits, bit-count, field, read-field, clause, range, Rule, Rules, nil, cons, clause-holds, empty-holds, join, holds, any, group}
-use Rattle.sheet.specs.Sheet.{read-tagged, read-entry, read-members, read-rest, read-rule, read-edition, filling, read-filling, read-whole, read-sheet, obeys}
+use Rattle.sheet.specs.Sheet.{read-tagged, read-entry, read-members, read-rest, read-rule, read-edition, filling, read-filling, read-whole, read-sheet, well-formed, obeys}
 use Rattle.sheet.proofs.Window.{word, word-field}
 use Rattle.sheet.proofs.Reading.{field-there, entry-range}
 use Rattle.example.specs.Valid.{one-of, valid, app-rule, app-sheet}
@@ -103,6 +103,10 @@ module _ (addr val0 val1 : ℕ) (fits : addr < 2 ^ address-bits) (byte0 : val0 <
   pub app-sheet-read : read-sheet s ≡ some (app-rule addr val0 val1)
   unfolding read-sheet read-whole read-edition read-filling filling field
   app-sheet-read = rw (there s 4 0 {v = 1} (omega arith) refl, rule-read)
+
+  pub app-sheet-formed : well-formed s ≡ true
+  unfolding well-formed
+  app-sheet-formed = rw app-sheet-read
 
   -- a byte from v to v is v
   between : (v b : ℕ) → (leb v b && leb b v) ≡ eqb b v

@@ -20,6 +20,7 @@ use Rattle.example.proofs.round.pair.Lts as lts
 use Rattle.example.proofs.round.stopped.Reads as stopped-reads
 use Rattle.gate.proofs.gate.gate.Reads as gate-reads
 use Rattle.writelog.proofs.flush.flush.Reads as flush-reads
+
 -- the places: the start, the first write and the second
 abbrev start : tie.After-gate → tie.Start
 start c = c .before .before .before .before .before .before .before .before .before
