@@ -49,6 +49,13 @@ module _ (image : List ℕ) (addr val0 : ℕ) where
     unfolding setup-number
     setup-inside h = rw (le-leb (length image) image-limit short, le-leb (addr + 1) (length image) (omega arith))
 
+  pub setup-done-lies : setup-number image addr ≡ 0 → addr < length image
+  unfolding setup-number
+  setup-done-lies e =
+      let first = passed (leb (length image) image-limit) 0 (unless (leb (addr + 1) (length image)) 2 0) e in
+      let inside = leb-true (addr + 1) (length image) (passed (leb (addr + 1) (length image)) 1 0 (first .1) .0) in
+      omega (arith, inside)
+
 -- the tests of a run before the image is judged, by the lengths
 module _ (L log-length work-length addr rounds : ℕ) where
   abbrev number : ℕ

@@ -15,7 +15,8 @@ pub enum RunAnswer {
 // "12: example: more than 1000 rounds"
 pub const ROUNDS_LIMIT: u64 = 1000;
 
-pub mod app_sheet;
-pub mod round;
+mod app_sheet;
+pub mod numbers;
+mod round;
 pub mod run;
 pub mod setup;

@@ -10,9 +10,6 @@ use Rattle.example.proofs.Arms.{done-goes-on}
 use Rattle.example.proofs.StepLaws.{first-value, under-after, repeats-none, repeats-more, image-length, log-length, work-length}
 use Rattle.example.proofs.run.repeat.Statement.{statement}
 use Rattle.example.proofs.run.repeat.Tie as tie
-use Rattle.example.proofs.run.repeat.Reads as reads
-use Rattle.example.proofs.run.repeat.Lts as lts
-use Rattle.example.proofs.round.round.Reads as round-reads
 
 abbrev Inv-loop : tie.InvT-loop
 Inv-loop image₀ log₀ sheet work₀ addr val0 val1 rounds at₀ done₀ image log work at done =
@@ -21,44 +18,35 @@ Inv-loop image₀ log₀ sheet work₀ addr val0 val1 rounds at₀ done₀ image
 abbrev μ-loop : tie.MeasureT-loop
 μ-loop image₀ log₀ sheet work₀ addr val0 val1 rounds at₀ done₀ image log work at done = rounds - done
 
--- src/run.rt:60:5
 loop-holds : tie.Need-loop-holds Inv-loop μ-loop
 loop-holds c = let start = c .before .before .before .before in
     let a = start .args in
     (omega arith, start .pre, repeats-none (a .image .now) (a .log .now) (a .work .now) (a .addr) (a .val0) (a .val1))
 
--- src/run.rt:61:13
 round-requires : tie.Need-round-requires Inv-loop μ-loop
 round-requires c κs = c .before .before .before .before .loop .inv .1
 
 enum-told : tie.Need-enum-told Inv-loop μ-loop
 enum-told c = search needs
 
--- src/run.rt:64:13
 same-length : tie.Need-same-length Inv-loop μ-loop
 same-length c = absurd (done-goes-on (c .before .before .before .before .before .before .before .round .ensures .answers) (c .match .keys2))
 
--- src/run.rt:64:13
 same-length-2 : tie.Need-same-length-2 Inv-loop μ-loop
 same-length-2 c = absurd (done-goes-on (c .before .before .before .before .before .before .before .round .ensures .answers) (c .match .keys2))
 
--- src/run.rt:64:13
 same-length-3 : tie.Need-same-length-3 Inv-loop μ-loop
 same-length-3 c = absurd (done-goes-on (c .before .before .before .before .before .before .before .round .ensures .answers) (c .match .keys2))
 
--- src/run.rt:64:13
 returns : tie.Need-returns Inv-loop μ-loop
 returns c = absurd (done-goes-on (c .before .before .before .before .before .before .before .round .ensures .answers) (c .match .keys2))
 
--- src/run.rt:68:9
 add-done : tie.Need-add-done Inv-loop μ-loop
 add-done c = omega arith
 
--- src/run.rt:60:5
 loop-less : tie.Need-loop-less Inv-loop μ-loop
 loop-less c = omega arith
 
--- src/run.rt:60:5
 loop-again : tie.Need-loop-again Inv-loop μ-loop
 loop-again c = let round = c .before .before .before .before .before .before .before .before .before in
     let turn = c .before .before .before .before .before .before .before .before .before .before .before .before .before .before in
@@ -66,23 +54,19 @@ loop-again c = let round = c .before .before .before .before .before .before .be
     let more : turn .loop .done + 1 ≤ a .rounds = omega arith in
     (more, under-after (turn .loop .inv .1) (round .round .ensures) (first-value (a .val0) (a .val1)), repeats-more (a .image .now) (a .log .now) (a .work .now) (a .addr) (a .val0) (a .val1) (turn .loop .done) (turn .loop .inv .2) (round .round .ensures))
 
--- src/run.rt:44:1
 same-length-4 : tie.Need-same-length-4 Inv-loop μ-loop
 same-length-4 c = let a = c .before .before .before .before .before .before .args in
     image-length (a .image .now) (a .log .now) (a .work .now) (a .addr) (a .val0) (a .val1) (c .before .loop .done) (c .before .loop .inv .2)
 
--- src/run.rt:44:1
 same-length-5 : tie.Need-same-length-5 Inv-loop μ-loop
 same-length-5 c = let a = c .before .before .before .before .before .before .args in
     log-length (a .image .now) (a .log .now) (a .work .now) (a .addr) (a .val0) (a .val1) (c .before .loop .done) (c .before .loop .inv .2)
 
--- src/run.rt:44:1
 same-length-6 : tie.Need-same-length-6 Inv-loop μ-loop
 same-length-6 c = let start = c .before .before .before .before .before .before in
     let a = start .args in
     work-length (a .image .now) (a .log .now) (a .work .now) (a .addr) (a .val0) (a .val1) (c .before .loop .done) (c .before .loop .inv .2) (start .pre .same)
 
--- src/run.rt:44:1
 returns-2 : tie.Need-returns-2 Inv-loop μ-loop
 returns-2 c = let turn = c .before in
     let a = c .before .before .before .before .before .before .args in

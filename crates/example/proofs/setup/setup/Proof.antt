@@ -5,28 +5,21 @@ use Rattle.example.proofs.NumberLaws.{sets-up-refused, sets-up-done, se
 use borrow.Author.Needs.{needs}
 use Rattle.example.proofs.setup.setup.Statement.{statement}
 use Rattle.example.proofs.setup.setup.Tie as tie
-use Rattle.example.proofs.setup.setup.Reads as reads
-use Rattle.example.proofs.setup.setup.Lts as lts
 
--- src/setup.rt:12:9
 returns : tie.Need-returns
 returns c = let a = c .before .args in
     sets-up-refused (a .image .now) (a .addr) (a .val0) BadState (setup-long (a .image .now) (a .addr) (a .val0) (c .if1 .taken))
 
--- src/setup.rt:15:9
 returns-2 : tie.Need-returns-2
 returns-2 c = let a = c .before .before .args in
     sets-up-refused (a .image .now) (a .addr) (a .val0) OutOfRange (setup-outside (a .image .now) (a .addr) (a .val0) (c .before .if1 .left) (c .if2 .taken))
 
--- src/setup.rt:17:5
 slice-write-image : tie.Need-slice-write-image
 slice-write-image c = search needs
 
--- src/setup.rt:8:1
 same-length : tie.Need-same-length
 same-length c = search needs
 
--- src/setup.rt:8:1
 returns-3 : tie.Need-returns-3
 returns-3 c = let a = c .before .before .args in
     sets-up-done (a .image .now) (a .addr) (a .val0) (setup-inside (a .image .now) (a .addr) (a .val0) (c .before .if1 .left) (c .if2 .left)) refl
