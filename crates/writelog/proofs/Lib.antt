@@ -5,6 +5,7 @@ pub mod Soundness
 pub mod Views
 pub mod Walk
 pub mod WriteLaws
+pub mod Views
 pub mod ReadLaws
 pub mod FlushLaws
 pub mod KeptLaws
