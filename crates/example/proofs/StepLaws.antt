@@ -38,9 +38,10 @@ use Rattle.gate.proofs.Meaning.{gate-judges, gate-means}
 use Rattle.gate.proofs.Gives.{gated-holds}
 use Rattle.example.specs.Valid.{one-of, valid}
 use Rattle.example.specs.Steps.{Idle, Under, Goes, Repeats}
-use Rattle.example.specs.Run.{if-any-round, last-writes}
+use Rattle.example.specs.Run.{run-answer-number, if-any-round, last-writes}
 use Rattle.example.specs.declared.RunAnswer.{RunAnswer}
 use Rattle.example.specs.declared.RunAnswer.the-variants.{Done}
+use Rattle.example.proofs.Pins.{run-answers-by-number}
 use Rattle.example.proofs.ByteLog.{byte-laid, byte-writes, byte-log, byte-writes-last, byte-points, last-read, all-of, left-valid, cut-leaves-a-value}
 
 -- the state and the log buffer hold these values, written at addr
@@ -187,14 +188,12 @@ module _ (image : List ℕ) (st : State) (log sheet work : List ℕ) (addr a b :
         (both-true (first-value a b) (both-true (second-value a b) refl)) (omega arith) g
 
     module _ {second : Verdict} {st₂ : State} {log₂ work₂ : List ℕ} (g₂ : Gated image log₁ addr b (a ∷ []) second st₂ log₂ work₂) where
-      pub then-flushed : {answer : Answer} {st′ : State} {image′ : List ℕ} → Flushes image st₂ log₂ answer st′ image′ → Flushed image addr b answer st′ image′
-      then-flushed f = flush-goes image st₂ log₂ addr b (a ∷ []) (g₂ .logged) here f
-
-      pub pair-goes : {answer : Answer} {st′ : State} {image′ : List ℕ} → Flushes image st₂ log₂ answer st′ image′ → Goes image log addr a b Done st′ image′ log₂ work₂
-      pair-goes f =
-          let flushed = then-flushed f in
+      pub pair-goes : {answer : Answer} {st′ : State} {image′ : List ℕ} → Flushes image st₂ log₂ answer st′ image′
+          → {told : RunAnswer} → run-answer-number told ≡ answer-number answer → Goes image log addr a b told st′ image′ log₂ work₂
+      pair-goes f {told} e =
+          let flushed = flush-goes image st₂ log₂ addr b (a ∷ []) (g₂ .logged) here f in
           record {
-            answers = refl;
+            answers = run-answers-by-number told Done (e ∙ ap answer-number (flushed .done));
             idle = flushed .idle;
             image-after = flushed .image-after;
             log-after = g₂ .log-after ∙ ap (λ (l : List ℕ). set l 1 b) (g₁ .log-after);

@@ -9,6 +9,7 @@ use writelog::flush::flush;
 use writelog::state::Record;
 use writelog::state::State;
 ghost use mathlib.Core.Path.{_≡_};
+ghost use Rattle.region.specs.Answer.{answer-number};
 ghost use Rattle.gate.specs.Judgement.{verdict-report};
 ghost use Rattle.example.specs.Run.{run-answer-number};
 ghost use Rattle.example.specs.Steps.{Under, Goes};
@@ -26,6 +27,16 @@ fn stopped(verdict: Verdict) -> RunAnswer
         Verdict::Admitted(_) => RunAnswer::Done,
         Verdict::Denied(_) => RunAnswer::Denied,
         Verdict::Refused(why) => RunAnswer::Refused(why),
+    }
+}
+
+// The answer of a flush, as a run's: the same number.
+fn settled(answer: Answer) -> RunAnswer
+    ensures { λ r. ⌜ run-answer-number r ≡ answer-number answer ⌝ }
+{
+    match answer {
+        Answer::Done => RunAnswer::Done,
+        Answer::Refused(why) => RunAnswer::Refused(why),
     }
 }
 
@@ -65,15 +76,9 @@ pub fn pair(
     let flushed = flush(next, image, log);
     let answer = flushed.answer;
     let state = flushed.state;
-    match answer {
-        Answer::Done => Stepped {
-            answer: RunAnswer::Done,
-            state,
-        },
-        Answer::Refused(why) => Stepped {
-            answer: RunAnswer::Refused(why),
-            state,
-        },
+    Stepped {
+        answer: settled(answer),
+        state,
     }
 }
 
