@@ -5,7 +5,6 @@ pub mod Soundness
 pub mod Views
 pub mod Walk
 pub mod WriteLaws
-pub mod Views
 pub mod ReadLaws
 pub mod FlushLaws
 pub mod KeptLaws
