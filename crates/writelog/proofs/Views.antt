@@ -67,7 +67,7 @@ writes-agree (r ∷ rs) l l′ e =
     later a t l l′ e = sym (drop-take a t l) ∙ ap (drop a) e ∙ drop-take a t l′
 
 -- one record more at the end
-together-last : (rs : List Record) (r : Record) → together (rs ++ (r ∷ [])) ≡ together rs + r .len
+pub together-last : (rs : List Record) (r : Record) → together (rs ++ (r ∷ [])) ≡ together rs + r .len
 unfolding together
 together-last [] r = omega arith
 together-last (x ∷ rs) r = omega (arith, together-last rs r)
