@@ -246,3 +246,34 @@ pub fn tape_cut(
         )
     }
 }
+
+pub fn setup(image: &mut [u8], addr: u64, val0: u8) -> u64 {
+    // SAFETY: the slice is there.
+    unsafe { sys::skaldrift_setup(image.as_mut_ptr(), image.len(), addr, val0) }
+}
+
+pub fn run(
+    image: &mut [u8],
+    log: &mut [u8],
+    work: &mut [u8],
+    addr: u64,
+    val0: u8,
+    val1: u8,
+    rounds: u64,
+) -> u64 {
+    // SAFETY: the slices are there, and a `&mut` slice overlaps no other.
+    unsafe {
+        sys::skaldrift_run(
+            image.as_mut_ptr(),
+            image.len(),
+            log.as_mut_ptr(),
+            log.len(),
+            work.as_mut_ptr(),
+            work.len(),
+            addr,
+            val0,
+            val1,
+            rounds,
+        )
+    }
+}

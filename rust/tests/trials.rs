@@ -161,6 +161,30 @@ fn a_refusal_leaves_the_words() {
 }
 
 #[test]
+fn the_example_runs() {
+    let (mut log, mut work) = ([9u8; LOG_BYTES], [5u8; 16]);
+    let mut image = [7u8; 16];
+    assert_eq!(calls::run(&mut image, &mut log, &mut work, 3, 1, 2, 1001), 12);
+    assert_eq!(calls::run(&mut image, &mut log, &mut work, 3, 1, 2, 1000), 6);
+    assert_eq!(calls::run(&mut image, &mut log, &mut work, 16, 1, 2, 0), 2);
+    assert_eq!(calls::run(&mut image, &mut log[1..], &mut work, 3, 1, 2, 0), 1);
+    assert_eq!(calls::setup(&mut image, 16, 1), 2);
+    assert_eq!(calls::setup(&mut [0; 4097], 0, 1), 1);
+    assert_eq!((image, log, work), ([7; 16], [9; LOG_BYTES], [5; 16]));
+    assert_eq!(calls::setup(&mut image, 3, 2), 0);
+    let mut set_up = [7; 16];
+    set_up[3] = 2;
+    assert_eq!(image, set_up);
+    assert_eq!(calls::run(&mut image, &mut log, &mut work, 3, 1, 2, 0), 0);
+    assert_eq!((image, log, work), (set_up, [9; LOG_BYTES], [5; 16]));
+    assert_eq!(calls::run(&mut image, &mut log, &mut work, 3, 1, 2, 1000), 0);
+    let mut ran = [7; 16];
+    ran[3] = 1;
+    assert_eq!((image, work), (ran, ran));
+    assert_eq!(log[..3], [2, 1, 9]);
+}
+
+#[test]
 fn each_refusal_has_one_number() {
     for why in Refusal::ALL {
         assert_eq!(Refusal::of(why.number()), Some(why));
