@@ -74,13 +74,7 @@ pub fn flush(state: &mut [u64], image: &mut [u8], log: &[u8]) -> u64 {
     }
 }
 
-pub fn cut(
-    state: &mut [u64],
-    image: &mut [u8],
-    log: &[u8],
-    rows: &[u8],
-    report: &mut u64,
-) -> u64 {
+pub fn cut(state: &mut [u64], image: &mut [u8], log: &[u8], rows: &[u8], report: &mut u64) -> u64 {
     // SAFETY: the slices are there, and a `&mut` overlaps no other.
     unsafe {
         sys::skaldrift_cut(
