@@ -193,6 +193,20 @@ uint64_t skaldrift_tape_cut(uint64_t *state, size_t state_words,
                             uint8_t *predicted, size_t predicted_len,
                             uint64_t *report);
 
+/* The example application's setup. 0: the byte at `addr` is val0; every other byte stays. Else 1, 2. */
+uint64_t skaldrift_setup(uint8_t *image, size_t image_len, uint64_t addr, uint8_t val0);
+
+/*
+ * The example application: opens the image under the sheet "byte addr is val0 or val1", and `rounds` times writes val0 and
+ * val1 through the gate, flushes, writes val1 and val0, and flushes. It is proved that no write is denied after a good
+ * opening. 0: with no rounds nothing changes; otherwise the byte at `addr` is val0 and every other byte of the image stays,
+ * `work` is the image, and the log's first two bytes are val1 and val0. Else 1, 2, 12, 6.
+ */
+uint64_t skaldrift_run(uint8_t *image, size_t image_len,
+                       uint8_t *log, size_t log_len,
+                       uint8_t *work, size_t work_len,
+                       uint64_t addr, uint8_t val0, uint8_t val1, uint64_t rounds);
+
 #ifdef __cplusplus
 }
 #endif

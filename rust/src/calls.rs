@@ -74,13 +74,7 @@ pub fn flush(state: &mut [u64], image: &mut [u8], log: &[u8]) -> u64 {
     }
 }
 
-pub fn cut(
-    state: &mut [u64],
-    image: &mut [u8],
-    log: &[u8],
-    rows: &[u8],
-    report: &mut u64,
-) -> u64 {
+pub fn cut(state: &mut [u64], image: &mut [u8], log: &[u8], rows: &[u8], report: &mut u64) -> u64 {
     // SAFETY: the slices are there, and a `&mut` overlaps no other.
     unsafe {
         sys::skaldrift_cut(
@@ -243,6 +237,37 @@ pub fn tape_cut(
             predicted.as_mut_ptr(),
             predicted.len(),
             report,
+        )
+    }
+}
+
+pub fn setup(image: &mut [u8], addr: u64, val0: u8) -> u64 {
+    // SAFETY: the slice is there.
+    unsafe { sys::skaldrift_setup(image.as_mut_ptr(), image.len(), addr, val0) }
+}
+
+pub fn run(
+    image: &mut [u8],
+    log: &mut [u8],
+    work: &mut [u8],
+    addr: u64,
+    val0: u8,
+    val1: u8,
+    rounds: u64,
+) -> u64 {
+    // SAFETY: the slices are there, and a `&mut` slice overlaps no other.
+    unsafe {
+        sys::skaldrift_run(
+            image.as_mut_ptr(),
+            image.len(),
+            log.as_mut_ptr(),
+            log.len(),
+            work.as_mut_ptr(),
+            work.len(),
+            addr,
+            val0,
+            val1,
+            rounds,
         )
     }
 }

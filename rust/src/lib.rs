@@ -159,6 +159,8 @@ impl std::error::Error for Refusal {}
 fn done(number: u64) -> Result<(), Refusal> {
     match number {
         0 => Ok(()),
-        other => Err(Refusal::of(other).expect("the number is one that the call is proved to give")),
+        other => {
+            Err(Refusal::of(other).expect("the number is one that the call is proved to give"))
+        }
     }
 }

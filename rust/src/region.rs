@@ -104,7 +104,12 @@ impl<'a> Region<'a> {
 
     /// Opens the table again, under the same sheet: an empty log, as after a cut that keeps nothing.
     pub fn reopen(&mut self) -> Result<(), Refusal> {
-        done(calls::open(&mut self.state[..], &self.image, &self.log[..], &self.sheet))
+        done(calls::open(
+            &mut self.state[..],
+            &self.image,
+            &self.log[..],
+            &self.sheet,
+        ))
     }
 
     /// The image at the last flush or cut.
@@ -127,7 +132,10 @@ impl<'a> Region<'a> {
 
     /// The address and length of each outstanding write, oldest first.
     pub fn records(&self) -> impl Iterator<Item = (u64, u64)> + '_ {
-        self.state[1..].chunks_exact(2).take(self.outstanding()).map(|r| (r[0], r[1]))
+        self.state[1..]
+            .chunks_exact(2)
+            .take(self.outstanding())
+            .map(|r| (r[0], r[1]))
     }
 
     /// What is read at `addr`: the image with all outstanding writes applied. Refused with [`Refusal::OutOfRange`].
@@ -206,7 +214,11 @@ impl<'a> Region<'a> {
 
     /// Makes the read image the image, and empties the log.
     pub fn flush(&mut self) -> Result<(), Refusal> {
-        done(calls::flush(&mut self.state[..], &mut self.image, &self.log[..]))
+        done(calls::flush(
+            &mut self.state[..],
+            &mut self.image,
+            &self.log[..],
+        ))
     }
 
     /// A power cut: `keep(w, c)` says whether the bytes of outstanding write w (oldest first) in chunk c had reached

@@ -147,4 +147,19 @@ extern "C" {
         predicted_len: usize,
         report: *mut u64,
     ) -> u64;
+
+    pub fn skaldrift_setup(image: *mut u8, image_len: usize, addr: u64, val0: u8) -> u64;
+
+    pub fn skaldrift_run(
+        image: *mut u8,
+        image_len: usize,
+        log: *mut u8,
+        log_len: usize,
+        work: *mut u8,
+        work_len: usize,
+        addr: u64,
+        val0: u8,
+        val1: u8,
+        rounds: u64,
+    ) -> u64;
 }

@@ -44,8 +44,14 @@ fn the_tape_predicts() {
     let mut table = Region::open(vec![0; 16], &ALWAYS).unwrap();
     let tape = [0x00, 0x80, 0x40];
     let mut by_tape = table.by_tape(&tape, 0);
-    assert_eq!(by_tape.write(6, &[0x11, 0x22, 0x33, 0x44]).unwrap()[6..10], [0x11, 0x22, 0x00, 0x00]);
-    assert_eq!(by_tape.write(7, &[0xAA, 0xBB]).unwrap()[6..10], [0x11, 0x22, 0xBB, 0x00]);
+    assert_eq!(
+        by_tape.write(6, &[0x11, 0x22, 0x33, 0x44]).unwrap()[6..10],
+        [0x11, 0x22, 0x00, 0x00]
+    );
+    assert_eq!(
+        by_tape.write(7, &[0xAA, 0xBB]).unwrap()[6..10],
+        [0x11, 0x22, 0xBB, 0x00]
+    );
     assert_eq!(by_tape.flush(), Err(Refusal::NotPredicted));
     assert_eq!(by_tape.cut(), Ok(2));
     assert_eq!(by_tape.start(), 3);
@@ -67,12 +73,21 @@ fn the_tape_predicts() {
 #[test]
 fn the_gate_judges_every_cut() {
     let mut table = Region::open(vec![0; 16], &SEVEN_EIGHT).unwrap();
-    assert!(matches!(table.gate(7, &[0xAA, 0xAA]), Verdict::Denied { choice: 1, .. }));
+    assert!(matches!(
+        table.gate(7, &[0xAA, 0xAA]),
+        Verdict::Denied { choice: 1, .. }
+    ));
     assert_eq!(table.outstanding(), 0);
     let mut table = Region::open(vec![0; 16], &EIGHT_NINE).unwrap();
-    assert!(matches!(table.judge(8, &[0xAA, 0xAA]), Verdict::Admitted { points: 1, .. }));
+    assert!(matches!(
+        table.judge(8, &[0xAA, 0xAA]),
+        Verdict::Admitted { points: 1, .. }
+    ));
     assert_eq!(table.outstanding(), 0);
-    assert!(matches!(table.gate(8, &[0xAA, 0xAA]), Verdict::Admitted { points: 1, .. }));
+    assert!(matches!(
+        table.gate(8, &[0xAA, 0xAA]),
+        Verdict::Admitted { points: 1, .. }
+    ));
     assert_eq!(table.outstanding(), 1);
     assert_eq!(table.flush(), Ok(()));
     assert_eq!(table.image()[8..10], [0xAA, 0xAA]);
@@ -84,17 +99,32 @@ fn the_limits_refuse() {
     assert_eq!(table.read(4096, 0), Ok(&[][..]));
     assert_eq!(table.read(4096, 1), Err(Refusal::OutOfRange));
     assert_eq!(table.read(usize::MAX, 2), Err(Refusal::OutOfRange));
-    assert!(matches!(table.gate(0, &[1; 128]), Verdict::Admitted { points: 16, .. }));
+    assert!(matches!(
+        table.gate(0, &[1; 128]),
+        Verdict::Admitted { points: 16, .. }
+    ));
     assert_eq!(table.reopen(), Ok(()));
-    assert_eq!(table.gate(1, &[1; 128]), Verdict::Refused(Refusal::TooManyPoints));
+    assert_eq!(
+        table.gate(1, &[1; 128]),
+        Verdict::Refused(Refusal::TooManyPoints)
+    );
     assert_eq!(table.write(0, &[1; 1025]), Err(Refusal::TooManyBytes));
     for _ in 0..32 {
         assert_eq!(table.write(0, &[]), Ok(()));
     }
     assert_eq!(table.write(0, &[1; 1025]), Err(Refusal::TooManyWrites));
-    assert_eq!(Region::open(vec![0; 4097], &ALWAYS).err(), Some(Refusal::BadState));
-    assert_eq!(Region::open(vec![0; 16], &[]).err(), Some(Refusal::BadSheet));
-    assert_eq!(Region::open(vec![0; 16], &[0x1C, 0x00]).err(), Some(Refusal::BrokenImage));
+    assert_eq!(
+        Region::open(vec![0; 4097], &ALWAYS).err(),
+        Some(Refusal::BadState)
+    );
+    assert_eq!(
+        Region::open(vec![0; 16], &[]).err(),
+        Some(Refusal::BadSheet)
+    );
+    assert_eq!(
+        Region::open(vec![0; 16], &[0x1C, 0x00]).err(),
+        Some(Refusal::BrokenImage)
+    );
     let mut none = Region::open(vec![], &ALWAYS).unwrap();
     assert_eq!(none.write(0, &[]), Ok(()));
     assert_eq!(none.write(1, &[]), Err(Refusal::OutOfRange));
@@ -105,7 +135,10 @@ fn the_limits_refuse() {
 fn lent_memory_serves_as_well() {
     let (mut image, mut log, mut state) = ([0u8; 16], [7u8; LOG_BYTES], [9u64; STATE_WORDS]);
     let mut table = Region::open_in(&mut image, &mut log, &mut state, &EIGHT_NINE).unwrap();
-    assert!(matches!(table.gate(8, &[0xAA, 0xAA]), Verdict::Admitted { .. }));
+    assert!(matches!(
+        table.gate(8, &[0xAA, 0xAA]),
+        Verdict::Admitted { .. }
+    ));
     assert_eq!(table.flush(), Ok(()));
     drop(table);
     assert_eq!(image[8..10], [0xAA, 0xAA]);
@@ -128,11 +161,37 @@ fn a_state_of_another_length_is_refused() {
             calls::read(&state, &image, &log, &mut work, 0, 1),
             calls::flush(&mut state, &mut image, &log),
             calls::cut(&mut state, &mut image, &log, &[], &mut report),
-            calls::judge(&state, &image, &log, &ALWAYS, &mut work, 0, &[5], &mut report),
-            calls::gate(&mut state, &image, &mut log, &ALWAYS, &mut work, 0, &[5], &mut report),
+            calls::judge(
+                &state,
+                &image,
+                &log,
+                &ALWAYS,
+                &mut work,
+                0,
+                &[5],
+                &mut report,
+            ),
+            calls::gate(
+                &mut state,
+                &image,
+                &mut log,
+                &ALWAYS,
+                &mut work,
+                0,
+                &[5],
+                &mut report,
+            ),
             calls::tape_write(&mut state, &image, &mut log, &tape, 0, &mut work, 0, &[5]),
             calls::tape_flush(&mut state, &mut image, &log, &tape, &mut start, &mut work),
-            calls::tape_cut(&mut state, &mut image, &log, &tape, &mut start, &mut work, &mut report),
+            calls::tape_cut(
+                &mut state,
+                &mut image,
+                &log,
+                &tape,
+                &mut start,
+                &mut work,
+                &mut report,
+            ),
         ];
         assert_eq!(answers, [1; 10]);
         assert_eq!(state, before);
@@ -145,19 +204,66 @@ fn a_state_of_another_length_is_refused() {
 /// A refused call leaves words and report as they were, old records past the count included.
 #[test]
 fn a_refusal_leaves_the_words() {
-    let mut state: Vec<u64> = (0..STATE_WORDS as u64).map(|i| i * 0x0101_0101_0101_0101).collect();
+    let mut state: Vec<u64> = (0..STATE_WORDS as u64)
+        .map(|i| i * 0x0101_0101_0101_0101)
+        .collect();
     state[0] = 33;
     let before = state.clone();
     let (mut image, log, mut report) = ([0u8; 16], [0u8; LOG_BYTES], 77);
     assert_eq!(calls::flush(&mut state, &mut image, &log), 1);
-    assert_eq!(calls::cut(&mut state, &mut image, &log, &[], &mut report), 1);
+    assert_eq!(
+        calls::cut(&mut state, &mut image, &log, &[], &mut report),
+        1
+    );
     state[0] = 0;
-    assert_eq!(calls::cut(&mut state, &mut image, &log, &[0], &mut report), 9);
+    assert_eq!(
+        calls::cut(&mut state, &mut image, &log, &[0], &mut report),
+        9
+    );
     assert_eq!(report, 77);
     assert_eq!(state[1..], before[1..]);
-    assert_eq!(calls::cut(&mut state, &mut image, &log, &[], &mut report), 0);
+    assert_eq!(
+        calls::cut(&mut state, &mut image, &log, &[], &mut report),
+        0
+    );
     assert_eq!(report, 0);
     assert_eq!(state[1..], before[1..]);
+}
+
+#[test]
+fn the_example_runs() {
+    let (mut log, mut work) = ([9u8; LOG_BYTES], [5u8; 16]);
+    let mut image = [7u8; 16];
+    assert_eq!(
+        calls::run(&mut image, &mut log, &mut work, 3, 1, 2, 1001),
+        12
+    );
+    assert_eq!(
+        calls::run(&mut image, &mut log, &mut work, 3, 1, 2, 1000),
+        6
+    );
+    assert_eq!(calls::run(&mut image, &mut log, &mut work, 16, 1, 2, 0), 2);
+    assert_eq!(
+        calls::run(&mut image, &mut log[1..], &mut work, 3, 1, 2, 0),
+        1
+    );
+    assert_eq!(calls::setup(&mut image, 16, 1), 2);
+    assert_eq!(calls::setup(&mut [0; 4097], 0, 1), 1);
+    assert_eq!((image, log, work), ([7; 16], [9; LOG_BYTES], [5; 16]));
+    assert_eq!(calls::setup(&mut image, 3, 2), 0);
+    let mut set_up = [7; 16];
+    set_up[3] = 2;
+    assert_eq!(image, set_up);
+    assert_eq!(calls::run(&mut image, &mut log, &mut work, 3, 1, 2, 0), 0);
+    assert_eq!((image, log, work), (set_up, [9; LOG_BYTES], [5; 16]));
+    assert_eq!(
+        calls::run(&mut image, &mut log, &mut work, 3, 1, 2, 1000),
+        0
+    );
+    let mut ran = [7; 16];
+    ran[3] = 1;
+    assert_eq!((image, work), (ran, ran));
+    assert_eq!(log[..3], [2, 1, 9]);
 }
 
 #[test]

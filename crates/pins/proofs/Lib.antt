@@ -4,3 +4,4 @@ pub mod Region
 pub mod Writelog
 pub mod Gate
 pub mod Tape
+pub mod Skaldrift
