@@ -36,7 +36,7 @@ use Rattle.gate.proofs.Gives.{opens-means, opened-fresh}
 use Rattle.tape.specs.Write.{TapeWrites}
 use Rattle.tape.specs.Flush.{TapeFlushes}
 use Rattle.tape.specs.Cut.{TapeCuts}
-use Rattle.tape.proofs.Recorded.{writes-counted}
+use Rattle.writelog.proofs.Views.{writes-counted}
 use Rattle.tape.proofs.NumberLaws.{ending-done}
 use Rattle.tape.proofs.PredictLaws.{predicted-cut}
 use Rattle.session.specs.History.{Event, nothing, written, flushed, cut-by, reopened, if-answered, if-admitted, if-cut, rows-there, none-kept, happen, settled}

@@ -4,7 +4,7 @@ use Prim.Native.Nat.{ℕ, zero, suc, _+_, _-_, _≤_, _<_}
 use native.Mathlib.Nat.{add-sub-cancel-left, suc-add, zero-add}
 use native.Mathlib.Numerals.{add-one}
 use native.Mathlib.Omega.{arith}
-use mathlib.Core.Path.{_≡_, refl, sym, ap, ap₂, subst, _∙_}
+use mathlib.Core.Path.{_≡_, refl, sym, ap, ap₂, subst, subst⁻¹, _∙_}
 use mathlib.Core.Bool.{Bool, true, _&&_}
 use mathlib.Core.List.{List, [], _∷_, _++_}
 use lib.Dec.{leb}
@@ -94,6 +94,29 @@ module _ (st : State) (addr n : ℕ) (sized : length (st .records) ≡ writes-li
   pub sized-of-appended : length (appended st addr n .records) ≡ writes-limit
   sized-of-appended = length-set (st .records) (st .count) (record { addr = addr; len = n }) ∙ sized
 
+-- the state stays sound
+pub sound-of-appended : (L : ℕ) (st : State) (log-length addr n : ℕ) → length (st .records) ≡ writes-limit → Sound L st log-length → Room L st addr n
+    → Sound L (appended st addr n) log-length
+sound-of-appended L st log-length addr n sized s r =
+    let rs = records-of-appended st addr n sized (r .few) in
+    let new : Record = record { addr = addr; len = n } in
+    record {
+      short = s .short;
+      buffer = s .buffer;
+      few = omega (arith, r .few);
+      inside = ap (records-inside L) rs ∙ inside-last L (log-records st) new (s .inside) (r .lies);
+      room = omega (arith, ap together rs, together-last (log-records st) new, r .fits);
+    }
+
+-- one write for each record of the log
+length-writes-of : (rs : List Record) (log : List ℕ) → length (writes-of rs log) ≡ length rs
+unfolding writes-of
+length-writes-of [] log = refl
+length-writes-of (r ∷ rs) log = ap suc (length-writes-of rs (drop (r .len) log))
+
+pub writes-counted : (image : List ℕ) (st : State) (log : List ℕ) → st .count ≤ length (st .records) → length (view image st log .outstanding-writes) ≡ st .count
+writes-counted image st log h = length-writes-of (log-records st) log ∙ length-take-le (st .count) (st .records) h
+
 -- the step of an accepted write
 module _ (image : List ℕ) (st : State) (log : List ℕ) (addr : ℕ) (bytes : List ℕ) (sized : length (st .records) ≡ writes-limit) (s : Sound (length image) st (length log)) (r : Room (length image) st addr (length bytes)) where
   abbrev at : ℕ
@@ -112,15 +135,8 @@ module _ (image : List ℕ) (st : State) (log : List ℕ) (addr : ℕ) (bytes : 
 
   pub sound-after-recorded : Sound (length image) (appended st addr (length bytes)) (length (update-bytes log (together (log-records st)) bytes))
   sound-after-recorded =
-      let rs = records-of-appended st addr (length bytes) sized (r .few) in
-      let new : Record = record { addr = addr; len = length bytes } in
-      record {
-        short = s .short;
-        buffer = length-laid log at bytes fits-log ∙ s .buffer;
-        few = omega (arith, r .few);
-        inside = ap (records-inside (length image)) rs ∙ inside-last (length image) (log-records st) new (s .inside) (r .lies);
-        room = omega (arith, ap together rs, together-last (log-records st) new, r .fits);
-      }
+      subst⁻¹ (Sound (length image) (appended st addr (length bytes))) (length-laid log at bytes fits-log)
+      (sound-of-appended (length image) st (length log) addr (length bytes) sized s r)
 
 -- an empty log
 module _ (st : State) where
