@@ -6,7 +6,6 @@ use mathlib.Core.Path.{_≡_, refl}
 use mathlib.Core.List.{List, [], _∷_}
 use lib.ListN.{replicate, set}
 use Rattle.region.specs.Limits.{const-persistence-chunk-size, writes-limit, log-limit}
-use Rattle.region.specs.Pmemspec.{update-bytes}
 use Rattle.region.specs.declared.Answer.the-variants.{Done, Refused}
 use Rattle.region.specs.declared.Refusal.the-variants.{OutOfRange}
 use Rattle.writelog.specs.State.{appended, emptied}
