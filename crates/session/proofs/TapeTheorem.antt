@@ -3,7 +3,7 @@
 use Prim.Native.Nat.{ℕ, _+_}
 use mathlib.Core.Path.{_≡_, refl, sym, ap, ap₂, _∙_}
 use mathlib.Core.List.{List}
-use lib.ListN.{length, take}
+use lib.ListN.{take}
 use Rattle.region.specs.Limits.{const-persistence-chunk-size}
 use Rattle.region.specs.declared.Answer.{Answer}
 use Rattle.region.specs.declared.Answer.the-variants as answer
@@ -13,8 +13,7 @@ use Rattle.writelog.specs.State.{writes-of}
 use Rattle.writelog.specs.declared.state.State.{State}
 use Rattle.writelog.specs.declared.cut.CutAnswer.{CutAnswer}
 use Rattle.writelog.specs.declared.cut.CutAnswer.the-variants as cut-answer
-use Rattle.writelog.proofs.Views.{view-of-emptied}
-use Rattle.gate.specs.Opening.{fresh, Opens}
+use Rattle.gate.specs.Opening.{Opens}
 use Rattle.gate.specs.Judgement.{Judges}
 use Rattle.gate.specs.declared.Verdict.the-variants.{Admitted}
 use Rattle.gate.proofs.Gives.{opened-fresh}
@@ -23,12 +22,12 @@ use Rattle.tape.specs.Write.{TapeWrites}
 use Rattle.tape.specs.Flush.{TapeFlushes}
 use Rattle.tape.specs.Cut.{TapeCuts}
 use Rattle.tape.proofs.Steps.{StepOfEnding, step-of-write, step-of-flush, step-of-cut}
-use Rattle.session.specs.History.{Event, nothing, written, flushed, cut-by, reopened, History, opening, _then_, if-answered, if-cut, settled, happen, replay}
+use Rattle.session.specs.History.{Event, nothing, written, flushed, cut-by, reopened, History, _then_, if-answered, if-cut, happen, replay}
 use Rattle.session.specs.Run as run
 use Rattle.session.specs.Run.{Desk, desk, seen, Step, Run}
 use Rattle.session.specs.TapeRun.{TapeStep, judged-write, flush, cut, reopen, other, TapeRun, opened, _and_, tape-throughout}
 use Rattle.session.specs.TapeTheorem.{Told, predicted-of, epoch-over, tell, replay-by-tape, prediction, TapeSession}
-use Rattle.session.proofs.Keeps.{changed, left, HoldsAt}
+use Rattle.session.proofs.Keeps.{left, HoldsAt}
 use Rattle.session.proofs.Steps.{numbered, step-keeps}
 use Rattle.session.proofs.Theorem.{invariant, session}
 

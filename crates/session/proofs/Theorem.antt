@@ -15,7 +15,7 @@ use Rattle.writelog.specs.declared.state.State.{State}
 use Rattle.writelog.proofs.Views.{view-of-emptied}
 use Rattle.gate.specs.Opening.{fresh, Opens}
 use Rattle.gate.proofs.Gives.{opens-means, opened-fresh, opened-holds}
-use Rattle.session.specs.History.{History, opening, _then_, happen, replay}
+use Rattle.session.specs.History.{History, opening, happen, replay}
 use Rattle.session.specs.Run.{Desk, desk, seen, Run, opened, _and_, throughout}
 use Rattle.session.specs.Theorem.{Session}
 use Rattle.session.proofs.Keeps.{HoldsAt}

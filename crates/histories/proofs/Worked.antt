@@ -6,7 +6,6 @@ use mathlib.Core.Path.{_≡_, refl}
 use mathlib.Core.List.{List, [], _∷_}
 use lib.ListN.{replicate, set}
 use Rattle.region.specs.Limits.{const-persistence-chunk-size, writes-limit, log-limit}
-use Rattle.region.specs.Pmemspec.{update-bytes}
 use Rattle.region.specs.declared.Answer.the-variants.{Done, Refused}
 use Rattle.region.specs.declared.Refusal.the-variants.{OutOfRange}
 use Rattle.writelog.specs.State.{appended, emptied}
@@ -19,16 +18,16 @@ use Rattle.gate.specs.Judgement.{Judges, Gates}
 use Rattle.gate.specs.declared.Verdict.the-variants.{Admitted, Denied}
 use Rattle.tape.specs.Write.{TapeWrites}
 use Rattle.tape.specs.Cut.{TapeCuts}
 use Rattle.session.specs.History.{nothing, written, cut-by, reopened, History, opening, _then_, settled, replay}
 use Rattle.session.specs.Run as run
 use Rattle.session.specs.Run.{desk, Run}
 use Rattle.session.specs.Theorem.{Session}
 use Rattle.session.specs.TapeRun as by-tape
 use Rattle.session.specs.TapeRun.{TapeRun}
 use Rattle.session.specs.TapeTheorem.{TapeSession, prediction}
-use Rattle.session.proofs.Computing.{everything}
+use Rattle.histories.proofs.Computing.{everything}
 use Rattle.session.proofs.Theorem.{session}
 use Rattle.session.proofs.TapeTheorem.{tape-session}
 
 abbrev pub zeros : List ℕ
 zeros = replicate 16 0

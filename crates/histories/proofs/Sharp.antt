@@ -6,7 +6,7 @@ use mathlib.Core.Path.{_≡_, refl, ap}
 use mathlib.Core.Bool.{true, false, false≢true}
 use mathlib.Core.List.{List, [], _∷_}
 use lib.ListN.{length, getD, replicate, set}
-use Rattle.region.specs.Limits.{const-persistence-chunk-size, log-limit}
+use Rattle.region.specs.Limits.{const-persistence-chunk-size}
 use Rattle.region.specs.declared.Answer.the-variants.{Done, Refused}
 use Rattle.region.specs.declared.Refusal.the-variants.{BrokenImage}
 use Rattle.replay.specs.AsyncSpec.{AsyncView, flush-selective, can-crash}
@@ -23,12 +23,12 @@ use Rattle.gate.specs.Judgement.{Judges, Gates}
 use Rattle.gate.specs.declared.Verdict.the-variants.{Admitted, Denied}
 use Rattle.tape.specs.Write.{TapeWrites}
 use Rattle.tape.specs.Cut.{TapeCuts}
 use Rattle.session.specs.History.{written, flushed, cut-by, reopened, opening, _then_, rows-there}
 use Rattle.session.specs.Run.{desk, seen}
 use Rattle.session.specs.Theorem.{Session}
 use Rattle.session.specs.TapeTheorem.{TapeSession}
-use Rattle.session.proofs.Computing.{everything}
-use Rattle.session.proofs.Worked.{zeros, eight-is-nine, any-state, any-log, aa, cc, image-aa, image-cc, one-write, log-aa, log-cc, tape, the-opening, the-admitted-write, the-reopening, the-verdict, the-tape-write, the-tape-cut}
+use Rattle.histories.proofs.Computing.{everything}
+use Rattle.histories.proofs.Worked.{zeros, eight-is-nine, any-state, any-log, aa, cc, image-aa, image-cc, one-write, log-aa, log-cc, tape, the-opening, the-admitted-write, the-tape-write, the-tape-cut}
 
 -- the image that a cut by a table leaves
 table-leaves : (v : AsyncView) (table : List ℕ) → can-crash const-persistence-chunk-size v (flush-selective const-persistence-chunk-size v (rows-there const-persistence-chunk-size v table 0))
