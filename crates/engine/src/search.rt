@@ -25,7 +25,7 @@ fn obeyed(sheet: &[u8], image: &[u8]) -> bool
     }
 }
 
-// Tries the numbers of `points` choice points. What it leaves in `work` is its last trial: the first
+// Tries all numbers from 0 to 2^points - 1. What it leaves in `work` is its last trial: the first
 // bad image, or the read image, which the last number leaves.
 pub fn search(
     state: State,
@@ -40,9 +40,9 @@ pub fn search(
     requires { ⌜ Ready (length (now image)) state (length (now log)) (length (now work)) addr (length (now bytes)) points ⌝ }
     ensures { λ r. ⌜ Searches (view (now (image .entry)) state (now (log .entry))) (now (sheet .entry)) addr (now (bytes .entry)) r (now (work .exit)) ⌝ }
 {
-    let numbers = 1 << points;
+    let last = (1 << points) - 1;
     let mut m = 0;
-    while m < numbers {
+    while m <= last {
         trial(state, image, log, work, addr, bytes, points, m);
         if !obeyed(sheet, work) {
             return Outcome::FirstBad(m);

@@ -1,5 +1,5 @@
 -- Which test gives a judgement its number, and what a judgement on all images tells: the write fits. Assumes nothing.
-use Prim.Native.Nat.{ℕ, zero, suc, _≤_, _<_}
+use Prim.Native.Nat.{ℕ, zero, suc, _+_, _≤_, _<_}
 use native.Mathlib.Nat.{suc-ne-zero}
 use native.Mathlib.Omega.{arith}
 use mathlib.Core.Path.{_≡_, refl, sym, ap, _∙_}
@@ -20,11 +20,13 @@ use Rattle.sheet.specs.Sheet.{well-formed}
 use Rattle.writelog.specs.State.{log-records, together, view, sound, appended}
 use Rattle.writelog.specs.Write.{room-number}
 use Rattle.writelog.specs.declared.state.State.{State}
+use Rattle.writelog.proofs.WriteLaws.{Room, room-done, room-there}
 use Rattle.engine.specs.declared.search.Outcome.{Outcome}
 use Rattle.engine.specs.declared.search.Outcome.the-variants.{AllGood, FirstBad}
 use Rattle.engine.specs.Search.{searched, sheet-verdict, sheet-image, Searches}
 use Rattle.gate.specs.declared.Verdict.{Verdict}
 use Rattle.gate.specs.declared.Verdict.the-variants.{Admitted, Denied, Refused}
+use Rattle.gate.specs.Meaning.{Fits}
 use Rattle.gate.specs.Judgement.{denied-number, verdict-report, Judgement, refused, tried, gate-points, weighed, fitted, judgement, judgement-report, judgement-work, judge-report, judge-number, Judges, Gates, Weighs}
 
 -- the tests of a judgement, as bare values
@@ -51,20 +53,19 @@ never-zero true true (suc k) t₃ r e = suc-ne-zero k (ap number-of e)
 never-zero true false k t₃ r e = suc-ne-zero 4 (ap number-of e)
 never-zero false t₂ k t₃ r e = suc-ne-zero 0 (ap number-of e)
 
+-- a report of a value is none of nothing, and tells the value
+pub nothing-reported : {m : ℕ} → [] ≡ m ∷ [] → ⊥
+nothing-reported e = suc-ne-zero 0 (sym (ap length e))
+
+pub one-value : {m n : ℕ} → _≡_ {A = List ℕ} (m ∷ []) (n ∷ []) → m ≡ n
+one-value e = cc
+
 module _ (image : List ℕ) (st : State) (log sheet work : List ℕ) (addr : ℕ) (bytes : List ℕ) where
   abbrev pub J : Judgement
   J = judgement image st log sheet work addr bytes
 
   abbrev first : Bool
   first = sound (length image) st (length log) && eqb (length work) (length image)
-
-  -- the write fits document 01's limits: every test up to 7 is passed
-  pub record Fits : Type 0 where
-    pub good : sound (length image) st (length log) ≡ true
-    pub same : length work ≡ length image
-    pub formed : well-formed sheet ≡ true
-    pub room : room-number (length image) st addr (length bytes) ≡ 0
-    pub few : gate-points image st log addr bytes ≤ points-limit
 
   pub judgement-unsound : sound (length image) st (length log) ≡ false → J ≡ refused 1
   unfolding judgement
@@ -97,16 +98,30 @@ module _ (image : List ℕ) (st : State) (log sheet work : List ℕ) (addr : ℕ
   weighed-few : gate-points image st log addr bytes ≤ points-limit → weighed image st log sheet addr bytes ≡ tried (sheet-verdict sheet (view image st log) addr bytes)
   weighed-few h = cond-when (leb (gate-points image st log addr bytes) points-limit) _ (refused 7) (le-leb (gate-points image st log addr bytes) points-limit h)
 
-  -- a write that fits is judged on all its images, and no other is
-  pub fitting-tried : Fits → J ≡ tried (sheet-verdict sheet (view image st log) addr bytes)
-  fitting-tried f = judgement-room (f .good) (f .same) (f .formed) (f .room) ∙ weighed-few (f .few)
+  pub fits-room : Fits image st log sheet work addr bytes → room-number (length image) st addr (length bytes) ≡ 0
+  fits-room f = room-there (length image) st addr (length bytes) (le-leb (addr + length bytes) (length image) (f .lies)) (f .few-writes) (f .few-bytes)
 
-  pub tried-fits : (r : search.Verdict) → J ≡ tried r → Fits × (r ≡ sheet-verdict sheet (view image st log) addr bytes)
+  -- a write that fits is judged on all its images, and no other is
+  pub fitting-tried : Fits image st log sheet work addr bytes → J ≡ tried (sheet-verdict sheet (view image st log) addr bytes)
+  fitting-tried f =
+      judgement-room (f .good) (f .same) (f .formed) (fits-room f)
+      ∙ weighed-few (f .few-points)
+
+  pub tried-fits : (r : search.Verdict) → J ≡ tried r → Fits image st log sheet work addr bytes × (r ≡ sheet-verdict sheet (view image st log) addr bytes)
   unfolding judgement
   tried-fits r e =
       let t = all-passed first (well-formed sheet) (room-number (length image) st addr (length bytes)) (leb (gate-points image st log addr bytes) points-limit) (sheet-verdict sheet (view image st log) addr bytes) r e in
-      let t₁ = both _ _ (t .0) in (
-        record { good = t₁ .0; same = eqb-true (length work) (length image) (t₁ .1); formed = t .1; room = t .2; few = leb-true (gate-points image st log addr bytes) points-limit (t .3) },
+      let t₁ = both _ _ (t .0) in
+      let room = room-done (length image) st addr (length bytes) (t .2) in (
+        record {
+          good = t₁ .0;
+          same = eqb-true (length work) (length image) (t₁ .1);
+          formed = t .1;
+          lies = room .lies;
+          few-writes = room .few;
+          few-bytes = room .fits;
+          few-points = leb-true (gate-points image st log addr bytes) points-limit (t .3);
+        },
         t .4,
       )
 
@@ -115,13 +130,22 @@ module _ (image : List ℕ) (st : State) (log sheet work : List ℕ) (addr : ℕ
   not-refused-0 e = never-zero first (well-formed sheet) (room-number (length image) st addr (length bytes)) (leb (gate-points image st log addr bytes) points-limit) (sheet-verdict sheet (view image st log) addr bytes) e
 
   -- number 0: the write fits and is admitted
-  pub number-0-fits : judge-number image st log sheet work addr bytes ≡ 0 → Fits × (sheet-verdict sheet (view image st log) addr bytes ≡ search.admit)
+  pub number-0-fits : judge-number image st log sheet work addr bytes ≡ 0 → Fits image st log sheet work addr bytes × (sheet-verdict sheet (view image st log) addr bytes ≡ search.admit)
   number-0-fits = go J refl
     where
-      go : (j : Judgement) → J ≡ j → judgement-report (gate-points image st log addr bytes) j .number ≡ 0 → Fits × (sheet-verdict sheet (view image st log) addr bytes ≡ search.admit)
+      go : (j : Judgement) → J ≡ j → judgement-report (gate-points image st log addr bytes) j .number ≡ 0 → Fits image st log sheet work addr bytes × (sheet-verdict sheet (view image st log) addr bytes ≡ search.admit)
       go (refused why) e z = absurd (not-refused-0 (e ∙ ap refused z))
       go (tried search.admit) e z = let f = tried-fits search.admit e in (f .0, sym (f .1))
       go (tried (search.deny m)) e z = absurd (suc-ne-zero 7 z)
+
+  -- number 8 with m: it fits, and m is the first bad number
+  pub report-8-fits : (m : ℕ) → judge-report image st log sheet work addr bytes ≡ record { number = denied-number; values = m ∷ [] } → Fits image st log sheet work addr bytes × (sheet-verdict sheet (view image st log) addr bytes ≡ search.deny m)
+  report-8-fits m = go J refl
+    where
+      go : (j : Judgement) → J ≡ j → judgement-report (gate-points image st log addr bytes) j ≡ record { number = denied-number; values = m ∷ [] } → Fits image st log sheet work addr bytes × (sheet-verdict sheet (view image st log) addr bytes ≡ search.deny m)
+      go (refused why) e z = absurd (nothing-reported (ap (λ (r : Report). r .values) z))
+      go (tried search.admit) e z = absurd (suc-ne-zero 7 (sym (ap (λ (r : Report). r .number) z)))
+      go (tried (search.deny k)) e z = let f = tried-fits (search.deny k) e in (f .0, sym (f .1) ∙ ap search.deny (one-value (ap (λ (r : Report). r .values) z)))
 
   -- the promises
   pub judges-refused : (why : Refusal) → J ≡ refused (refusal-number why) → Judges image st log sheet work addr bytes (Refused why) work
@@ -168,6 +192,15 @@ module _ (image : List ℕ) (st : State) (log sheet work : List ℕ) (addr : ℕ
     number-is : verdict-report answer .number ≡ judge-number image st log sheet work addr bytes
     number-is = ap (λ (r : Report). r .number) (j .answers)
 
+    -- a refusal judged nothing
+    pub refused-work : {why : Refusal} → answer ≡ Refused why → work′ ≡ work
+    refused-work {why} a = go J refl
+      where
+        go : (j : Judgement) → J ≡ j → work′ ≡ work
+        go (refused k) e = j .work-after ∙ ap (λ (x : Judgement). judgement-work (view image st log) addr bytes x work) e
+        go (tried search.admit) e = absurd (nothing-reported (ap (λ (r : Report). r .values) (sym (ap verdict-report a) ∙ j .answers ∙ ap (judgement-report (gate-points image st log addr bytes)) e)))
+        go (tried (search.deny m)) e = absurd (nothing-reported (ap (λ (r : Report). r .values) (sym (ap verdict-report a) ∙ j .answers ∙ ap (judgement-report (gate-points image st log addr bytes)) e)))
+
     pub admitted-number : {n : ℕ} → answer ≡ Admitted n → judge-number image st log sheet work addr bytes ≡ 0
     admitted-number a = sym number-is ∙ ap (λ (v : Verdict). verdict-report v .number) a
 
@@ -181,9 +214,12 @@ module _ (image : List ℕ) (st : State) (log sheet work : List ℕ) (addr : ℕ
           work-after = j .work-after;
         }
 
+    pub not-admitted-number : 0 < verdict-report answer .number → 0 < judge-number image st log sheet work addr bytes
+    not-admitted-number h = rw number-is at h
+
     gates-left : 0 < verdict-report answer .number → Gates image st log sheet work addr bytes answer st log work′
     gates-left h =
-        let some : 0 < judge-number image st log sheet work addr bytes = rw number-is at h in
+        let some = not-admitted-number h in
         record {
           answers = j .answers;
           state-after = sym (not-done (judge-number image st log sheet work addr bytes) (appended st addr (length bytes)) st some);

@@ -18,6 +18,7 @@ use Rattle.sheet.specs.Sheet.{well-formed, obeys}
 use Rattle.sheet.proofs.Laws.{obeyed-is-formed}
 use Rattle.writelog.specs.declared.state.State.{State}
 use Rattle.writelog.proofs.WriteLaws.{passed}
+use Rattle.gate.specs.Meaning.{Openable}
 use Rattle.gate.specs.Opening.{fresh, open-number, Opens}
 
 module _ (image log sheet : List ℕ) where
@@ -49,13 +50,7 @@ module _ (image log sheet : List ℕ) where
     pub open-good : obeys sheet image image ≡ true → open-number image log sheet ≡ 0
     open-good f = first-passed ∙ cond-when (well-formed sheet) last 5 (obeyed-is-formed sheet image image f) ∙ cond-when (obeys sheet image image) 0 6 f
 
-  -- the image has a fitting length and obeys the sheet, and the log buffer its size. Nothing is asked of a state or of the log's bytes.
-  pub record Openable : Type 0 where
-    pub short : length image ≤ image-limit
-    pub buffer : length log ≡ log-limit
-    pub obeyed : obeys sheet image image ≡ true
-
-  pub opens-exactly-if : (open-number image log sheet ≡ 0) ↔ Openable
+  pub opens-exactly-if : (open-number image log sheet ≡ 0) ↔ Openable image log sheet
   unfolding open-number
   opens-exactly-if = (
     λ e. let a = passed first 0 (unless (well-formed sheet) 5 last) e in

@@ -2,4 +2,6 @@
 pub mod Scheme
 pub mod Region
 pub mod Writelog
+pub mod Gate
 pub mod Tape
+pub mod Skaldrift

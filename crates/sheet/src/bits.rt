@@ -37,7 +37,7 @@ pub fn field_at(sheet: &[u8], at: usize, width: usize) -> usize
 }
 
 // A field that the sheet has whole, and where the next one starts.
-pub fn take_field(sheet: &[u8], at: usize, width: usize) -> Field
+pub fn whole_field(sheet: &[u8], at: usize, width: usize) -> Field
     requires { ⌜ (length (now sheet) ≤ max-bytes) × (width ≤ address-bits) ⌝ }
     ensures { λ r. ⌜ r ≡ field-told (read-field width (now (sheet .entry)) at) ⌝ }
 {

@@ -2,7 +2,7 @@
 // and then asking whether it holds of the image would. A group is read to its end, whichever member decides. Assumed: nothing.
 use crate::bits::BYTE_BITS;
 use crate::bits::Field;
-use crate::bits::take_field;
+use crate::reader::take_field;
 ghost use mathlib.Core.Path.{_≡_};
 ghost use Prim.Native.Nat.{_≤_};
 ghost use lib.ListN.{length};

@@ -31,7 +31,7 @@ use Rattle.tape.specs.Flush.{tape-flush-number, TapeFlushes}
 use Rattle.tape.specs.Cut.{tape-cut-number, tape-kept, TapeCuts}
 use Rattle.tape.proofs.NumberLaws.{plainly-done, ending-done}
 use Rattle.tape.proofs.PredictLaws.{predicted-cut}
-use Rattle.tape.proofs.Recorded.{writes-counted}
+use Rattle.writelog.proofs.Views.{writes-counted}
 use Rattle.tape.proofs.RowsLaws.{rows-of-part, rows-filled-of-part, rows-before, rows-filled-before}
 
 -- the epoch's rows as a row table of its own

@@ -15,7 +15,7 @@ use Rattle.writelog.proofs.Walk.{all-writes}
 use Rattle.tape.specs.Epoch.{flush-foretold, epoch-rows}
 use Rattle.tape.specs.Foretold.{predicted-image}
 use Rattle.tape.specs.Ending.{predicted-now}
-use Rattle.tape.proofs.Recorded.{writes-counted}
+use Rattle.writelog.proofs.Views.{writes-counted}
 
 -- the two headers
 pub predicted-flush : (C : ℕ) (tape : List ℕ) (start : ℕ) (v : AsyncView) → flush-foretold tape start ≡ true → predicted-image C tape start v ≡ readable v

@@ -23,7 +23,7 @@ use Rattle.tape.specs.Write.{tape-write-number, log-with, predicted-with
 use Rattle.tape.specs.Ending.{next-start, predicted-now}
 use Rattle.tape.specs.Flush.{tape-flush-number, TapeFlushes}
 use Rattle.tape.specs.Cut.{tape-cut-number, TapeCuts}
-use Rattle.tape.proofs.Recorded.{view-of-recorded, writes-counted}
+use Rattle.writelog.proofs.Views.{view-of-recorded, writes-counted}
 use Rattle.tape.proofs.NumberLaws.{tape-write-done, ending-done}
 use Rattle.tape.proofs.Foretells.{predicted-of-nothing, foretold-of-a-write, foretold-flush-is-predicted, foretold-cut-is-a-crash}
 use Rattle.tape.proofs.PredictLaws.{predicted-flush}
@@ -59,7 +59,7 @@ module _ (image : List ℕ) (st : State) (log tape : List ℕ) (start : ℕ) (pr
       let s : st′ ≡ appended st addr (length bytes) = came-true (appended st addr (length bytes)) st none (p .state-after) in
       let l : log′ ≡ log-with st log bytes = came-true (log-with st log bytes) log none (p .log-after) in
       let whole : view image (appended st addr (length bytes)) (log-with st log bytes) ≡ write v addr bytes
-      = view-of-recorded image st log addr bytes (omega (arith, told .room .room .few)) (omega (arith, told .room .room .fits, told .facts .buffer)) in
+      = view-of-recorded image st log addr bytes sized (told .facts) (told .room .room) in
       let after : view image st′ log′ ≡ write v addr bytes = ap₂ (view image) s l ∙ whole in
       record {
         view-after = after;

@@ -8,13 +8,9 @@ use mathlib.Core.List.{List, [], _∷_}
 use lib.Dec.{leb}
 use lib.ListN.{length, getD, take, drop, length-take, drop-of-length-le}
 use lib.Seq.{drop-cons, getD-take, length-take-le}
-use Rattle.writelog.specs.State.{log-records, together, records-inside, writes-of}
+use Rattle.writelog.specs.State.{log-records, together, records-inside, writes-of, no-record}
 use Rattle.writelog.specs.declared.state.Record.{Record}
 use Rattle.writelog.specs.declared.state.State.{State}
-
--- what stands where there is no record
-abbrev pub no-record : Record
-no-record = record { addr = 0; len = 0 }
 
 pub records-more : (st : State) (i : ℕ) → i < st .count → st .count ≤ length (st .records)
     → drop i (log-records st) ≡ getD (st .records) i no-record ∷ drop (suc i) (log-records st)

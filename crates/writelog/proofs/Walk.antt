@@ -29,13 +29,16 @@ piece-is at n log = ap (λ (k : ℕ). take k (drop at log)) (add-sub-cancel-left
 pub piece-le : (at n : ℕ) (log : List ℕ) → length (take (at + n - at) (drop at log)) ≤ n
 piece-le at n log = rw (add-sub-cancel-left at n, length-take n (drop at log)) (min-le-left n (length (drop at log)))
 
-pub record Step (L : ℕ) (st : State) (log-length at left : ℕ) : Type 0 where
+-- what is known where r is that record
+pub record StepBy (L : ℕ) (st : State) (log-length at left : ℕ) (r : Record) : Type 0 where
   pub index : st .count - left < 32
-  pub lies : oldest st left .addr + oldest st left .len ≤ L
-  pub has : at + oldest st left .len ≤ log-length
-  pub after : Remaining L st log-length (at + oldest st left .len) (left - 1)
-  pub writes : (log : List ℕ)
-      → last-writes st left log at ≡ record { addr = oldest st left .addr; bytes = take (oldest st left .len) (drop at log) } ∷ last-writes st (left - 1) log (at + oldest st left .len)
+  pub lies : r .addr + r .len ≤ L
+  pub has : at + r .len ≤ log-length
+  pub after : Remaining L st log-length (at + r .len) (left - 1)
+  pub writes : (log : List ℕ) → last-writes st left log at ≡ record { addr = r .addr; bytes = take (r .len) (drop at log) } ∷ last-writes st (left - 1) log (at + r .len)
+
+abbrev pub Step : (L : ℕ) (st : State) (log-length at left : ℕ) → Type 0
+Step L st log-length at left = StepBy L st log-length at left (oldest st left)
 
 module _ (L : ℕ) (st : State) (n at left : ℕ) (r : Remaining L st n at left) where
   -- nothing is left to walk over

@@ -37,6 +37,14 @@ unfoldable pub sound : ℕ → State → ℕ → Bool
 sound L st log-length =
     leb L image-limit && eqb log-length log-limit && leb (st .count) writes-limit && records-inside L (log-records st) && leb (together (log-records st)) log-limit
 
+-- what stands where there is no record
+abbrev pub no-record : Record
+no-record = record { addr = 0; len = 0 }
+
+-- the state with r at index count
+abbrev pub with-record : State → Record → State
+with-record st r = record { count = st .count; records = set (st .records) (st .count) r }
+
 -- the state with one record more, at index count
 abbrev pub appended : State → ℕ → ℕ → State
 appended st addr len = record { count = st .count + 1; records = set (st .records) (st .count) (record { addr = addr; len = len }) }

@@ -5,5 +5,6 @@ pub mod cut;
 pub mod flush;
 pub mod log;
 pub mod read;
+pub mod record_list;
 pub mod state;
 pub mod write;

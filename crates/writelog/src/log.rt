@@ -1,4 +1,5 @@
 // Walks over the log, oldest write first, one write falling away at each step.
+use crate::record_list::record_at;
 use crate::state::Record;
 use crate::state::State;
 use region::CHUNK_SIZE;
@@ -26,7 +27,7 @@ pub fn replay_whole(state: State, log: &[u8], work: &mut [u8], at: usize, left: 
         return;
     }
     let i = state.count - left;
-    let r = state.records[i];
+    let r = record_at(state, i);
     let end = at + r.len;
     lay(work, r.addr, &log[at..end]);
     replay_whole(state, log, work, end, left - 1);
@@ -51,7 +52,7 @@ pub fn replay_selected(
         return;
     }
     let next = state.count - left;
-    let r = state.records[next];
+    let r = record_at(state, next);
     let end = at + r.len;
     lay_selected(work, r.addr, &log[at..end], rows, row);
     replay_selected(state, log, rows, width, work, end, row + width, left - 1);
@@ -68,7 +69,7 @@ pub fn kept(state: State, size: usize, rows: &[u8]) -> usize
     let mut row = 0;
     let mut i = 0;
     while i < count {
-        let r = state.records[i];
+        let r = record_at(state, i);
         sum += set_bits(rows, row, r.addr / CHUNK_SIZE, touched(r.addr, r.len));
         row += width;
         i += 1;

@@ -1,4 +1,5 @@
 // The plain write.
+use crate::record_list::with_record;
 use crate::state::Outstanding;
 use crate::state::Record;
 use crate::state::State;
@@ -46,13 +47,12 @@ pub fn recorded(state: State, log: &mut [u8], used: usize, addr: usize, bytes: &
     ensures { λ r. ⌜ (r ≡ appended state addr (length (now (bytes .entry)))) × (now (log .exit) ≡ update-bytes (now (log .entry)) used (now (bytes .entry))) ⌝ }
 {
     lay(log, used, bytes);
-    let at = state.count;
-    let mut next = state;
-    next.records[at] = Record {
+    let r = Record {
         addr,
         len: bytes.len(),
     };
-    next.count = at + 1;
+    let mut next = with_record(state, r);
+    next.count = state.count + 1;
     next
 }
 

@@ -7,7 +7,7 @@ use lib.ListN.{length}
 use lib.Pow.{pow-pos}
 use mathlib.Core.Path.{_≡_, refl, sym, ap, subst⁻¹, _∙_}
 use native.Mathlib.Omega.{arith}
-use Prim.Native.Nat.{ℕ, _-_, _*_, _%_, _^_, _≤_, _<_}
+use Prim.Native.Nat.{ℕ, _+_, _-_, _*_, _%_, _^_, _≤_, _<_}
 use Rattle.cuts.specs.Number.{choice-points}
 use Rattle.replay.specs.AsyncSpec.{write}
 use Rattle.region.specs.Limits.{const-persistence-chunk-size}
@@ -19,10 +19,10 @@ use Rattle.engine.proofs.search.obeyed.Reads as obeyed-reads
 use Rattle.engine.proofs.trial.trial.Reads as trial-reads
 
 abbrev Inv-loop : tie.InvT-loop
-Inv-loop state image log sheet work₀ addr bytes points numbers m₀ work m = (numbers ≡ 2 ^ points) × (length work ≡ length work₀) × Tried (view image state log) sheet addr bytes points work m
+Inv-loop state image log sheet work₀ addr bytes points last m₀ work m = (last + 1 ≡ 2 ^ points) × (length work ≡ length work₀) × Tried (view image state log) sheet addr bytes points work m
 
 abbrev μ-loop : tie.MeasureT-loop
-μ-loop state image log sheet work₀ addr bytes points numbers m₀ work m = numbers - m
+μ-loop state image log sheet work₀ addr bytes points last m₀ work m = last + 1 - m
 
 -- the points are those of the log with the new write
 points-here : (c : tie.Start Inv-loop μ-loop) → choice-points const-persistence-chunk-size (write (view (c .args .image .now) (c .args .state) (c .args .log .now)) (c .args .addr) (c .args .bytes .now)) ≡ c .args .points
@@ -33,14 +33,19 @@ more-here : (c : tie.In-loop Inv-loop μ-loop) → c .before .loop .m < 2 ^ (c .
 more-here c = omega (arith, c .loop-test .taken, c .before .loop .inv .0)
 
 -- src/search.rt:43:19
-shl-numbers : tie.Need-shl-numbers Inv-loop μ-loop
-shl-numbers c = omega (arith, c .before .before .before .before .before .pre .few)
+shl-last : tie.Need-shl-last Inv-loop μ-loop
+shl-last c = omega (arith, c .before .before .before .before .before .pre .few)
+
+-- src/search.rt
+sub-last : tie.Need-sub-last Inv-loop μ-loop
+sub-last c = let start = c .before .before .before .before .before in
+    omega (arith, numbers-exact (start .args .points) (start .pre .few), pow-pos (start .args .points))
 
 -- src/search.rt:45:5
 loop-holds : tie.Need-loop-holds Inv-loop μ-loop
 loop-holds c = let start = c .before .before .before .before .before in
     let a = start .args in
-    (numbers-exact (a .points) (start .pre .few), refl, tried-none (view (a .image .now) (a .state) (a .log .now)) (a .sheet .now) (a .addr) (a .bytes .now) (a .points) (points-here start) (a .work .now))
+    (omega (arith, numbers-exact (a .points) (start .pre .few), pow-pos (a .points)), refl, tried-none (view (a .image .now) (a .state) (a .log .now)) (a .sheet .now) (a .addr) (a .bytes .now) (a .points) (points-here start) (a .work .now))
 
 -- src/search.rt:46:9
 trial-requires : tie.Need-trial-requires Inv-loop μ-loop
@@ -101,7 +106,8 @@ search-spec =
     (tie.spec
     Inv-loop
     μ-loop
-    shl-numbers
+    shl-last
+    sub-last
     loop-holds
     trial-requires
     obeyed-requires

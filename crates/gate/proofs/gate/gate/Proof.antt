@@ -2,7 +2,6 @@
 use Rattle.gate.proofs.JudgementLaws.{judgement-unsound, judges-refused, number-0-fits, admitted-number, gates-admitted, gates-denied, gates-refused}
 use Rattle.gate.specs.Judgement.{judge-number}
 use Rattle.writelog.proofs.Soundness.{Told, told-bytes, told-unsound}
-use Rattle.writelog.proofs.WriteLaws.{Room, room-done}
 use Rattle.region.specs.Pmemspec.{update-bytes}
 use Rattle.region.specs.declared.Refusal.the-variants.{BadState}
 use lib.ListN.{length}
@@ -59,8 +58,7 @@ recorded-requires : tie.Need-recorded-requires
 recorded-requires c κs = let a = c .before .before .before .before .before .before .before .before .before .before .before .before .before .before .before .before .before .args in
     let told = told-here (c .before .before .before .before .before .before .before .before) in
     let fits = number-0-fits (a .image .now) (a .state) (a .log .now) (a .sheet .now) (a .work .now) (a .addr) (a .bytes .now) (admitted-here (c .before)) .0 in
-    let room = room-done (length (a .image .now)) (a .state) (a .addr) (length (a .bytes .now)) (fits .room) in
-    (room .few, omega (arith, told .counted, told .facts .buffer, room .fits))
+    (fits .few-writes, omega (arith, told .counted, told .facts .buffer, fits .few-bytes))
 
 -- src/gate.rt:40:31
 enum-told-3 : tie.Need-enum-told-3

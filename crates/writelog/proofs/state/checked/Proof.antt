@@ -1,8 +1,8 @@
 use Rattle.writelog.proofs.Soundness.{Sound, facts-sound, facts-unsound}
-use Rattle.writelog.proofs.Records.{no-record, next, rest, together-more, inside-more, records-none}
+use Rattle.writelog.proofs.Records.{next, rest, together-more, inside-more, records-none}
 use Rattle.writelog.specs.declared.state.Outstanding.the-variants.{Bytes, Unsound}
 use Rattle.writelog.specs.declared.state.Record.{Record}
-use Rattle.writelog.specs.State.{log-records, together, records-inside, sound}
+use Rattle.writelog.specs.State.{log-records, together, records-inside, sound, no-record}
 use Rattle.region.proofs.Booleans.{cond-when, cond-unless, and-when, and-unless}
 use lib.ListN.{length, getD, drop, length-map}
 use lib.Dec.{leb}

@@ -1,0 +1,2 @@
+-- Clauses of the original that follow from what is promised here.
+pub mod Clauses

@@ -1,0 +1,50 @@
+-- `run` of `ExampleApp`. Document 01: "A run of r rounds opens the image under the edition 1 sheet 'any of: byte addr is val0; byte addr is val1', then
+-- per round writes val0, val1, flushes, writes val1, val0, flushes. .. With r at least 1, byte addr ends as val0 and no other byte changes; r = 0
+-- changes nothing. Its log buffer and working image end as those calls leave them." It meets 1, 2, 12 and 6.
+use Prim.Native.Nat.{ℕ, zero, suc, _+_}
+use mathlib.Core.Path.{_≡_}
+use mathlib.Core.Bool.{_&&_}
+use mathlib.Core.List.{List}
+use lib.Dec.{leb, eqb}
+use lib.ListN.{length, set}
+use Rattle.region.specs.Limits.{image-limit, log-limit}
+use Rattle.region.specs.Answer.{refusal-number, unless, if-done}
+use Rattle.gate.specs.Judgement.{denied-number}
+use Rattle.example.specs.Valid.{valid}
+use Rattle.example.specs.declared.RunAnswer.{RunAnswer}
+use Rattle.example.specs.declared.RunAnswer.the-variants.{Done, Refused, Denied}
+
+-- "12: example: more than 1000 rounds"
+abbrev pub rounds-limit : ℕ
+rounds-limit = 1000
+
+-- document 01's number for each case of the answer. `Denied` is proved never to come.
+abbrev pub run-answer-number : RunAnswer → ℕ
+run-answer-number Done = 0
+run-answer-number (Refused why) = refusal-number why
+run-answer-number Denied = denied-number
+
+-- 6 is "opening: image breaks the sheet": the sheet says `valid` (`proofs/SheetLaws.antt`)
+unfoldable pub run-number : (image log work : List ℕ) (addr val0 val1 rounds : ℕ) → ℕ
+run-number image log work addr val0 val1 rounds =
+    unless (leb (length image) image-limit && eqb (length log) log-limit && eqb (length work) (length image)) 1
+    (unless (leb (addr + 1) (length image)) 2
+    (unless (leb rounds rounds-limit) 12
+    (unless (valid addr val0 val1 image) 6
+    0)))
+
+-- what any round changes, and none leaves
+abbrev pub if-any-round {ℓ} : {A : Type ℓ} → (rounds : ℕ) → (after before : A) → A
+if-any-round zero after before = before
+if-any-round (suc rounds) after before = after
+
+-- the bytes that the last two writes of a round leave in the log buffer
+abbrev pub last-writes : List ℕ → (val0 val1 : ℕ) → List ℕ
+last-writes log val0 val1 = set (set log 0 val1) 1 val0
+
+-- what a run promises: its number, and every byte of the image, the log buffer and the working image afterwards
+pub record Runs (image log work : List ℕ) (addr val0 val1 rounds : ℕ) (answer : RunAnswer) (image′ log′ work′ : List ℕ) : Type 0 where
+  pub answers : run-answer-number answer ≡ run-number image log work addr val0 val1 rounds
+  pub image-after : image′ ≡ if-done (run-number image log work addr val0 val1 rounds) (if-any-round rounds (set image addr val0) image) image
+  pub log-after : log′ ≡ if-done (run-number image log work addr val0 val1 rounds) (if-any-round rounds (last-writes log val0 val1) log) log
+  pub work-after : work′ ≡ if-done (run-number image log work addr val0 val1 rounds) (if-any-round rounds (set image addr val0) work) work

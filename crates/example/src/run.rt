@@ -1,0 +1,97 @@
+// `run` of `ExampleApp`. The source runs for ever; here the rounds are counted.
+use crate::ROUNDS_LIMIT;
+use crate::RunAnswer;
+use crate::app_sheet::app_sheet;
+use crate::round::Stepped;
+use crate::round::round;
+use gate::open::Opened;
+use gate::open::fresh;
+use gate::open::open;
+use region::Answer;
+use region::IMAGE_LIMIT;
+use region::LOG_LIMIT;
+use region::Refusal;
+use writelog::state::Record;
+use writelog::state::State;
+ghost use mathlib.Core.Path.{_≡_};
+ghost use Rattle.region.specs.Answer.{answer-number};
+ghost use Rattle.example.specs.Run.{Runs};
+ghost use Rattle.example.specs.Steps.{Under, fits-number, Repeats};
+
+// What is asked before the image is judged: document 01's 1, 2 and 12.
+fn fits(image: usize, log: usize, work: usize, addr: usize, rounds: u64) -> Answer
+    ensures { λ r. ⌜ answer-number r ≡ fits-number image log work addr rounds ⌝ }
+{
+    if IMAGE_LIMIT < image {
+        return Answer::Refused(Refusal::BadState);
+    }
+    if log != LOG_LIMIT {
+        return Answer::Refused(Refusal::BadState);
+    }
+    if work != image {
+        return Answer::Refused(Refusal::BadState);
+    }
+    if image <= addr {
+        return Answer::Refused(Refusal::OutOfRange);
+    }
+    if ROUNDS_LIMIT < rounds {
+        return Answer::Refused(Refusal::TooManyRounds);
+    }
+    Answer::Done
+}
+
+// The rounds. Stops at the first refusal; none comes.
+fn repeat(
+    state: State,
+    image: &mut [u8],
+    log: &mut [u8],
+    sheet: &[u8],
+    work: &mut [u8],
+    addr: usize,
+    val0: u8,
+    val1: u8,
+    rounds: u64,
+) -> RunAnswer
+    requires { ⌜ Under (now image) state (now log) (now sheet) (now work) addr val0 val1 ⌝ }
+    ensures { λ r. ⌜ Repeats (now (image .entry)) (now (log .entry)) (now (work .entry)) addr val0 val1 rounds r (now (image .exit)) (now (log .exit)) (now (work .exit)) ⌝ }
+{
+    let mut at = state;
+    let mut done = 0;
+    while done < rounds {
+        let stepped = round(at, image, log, sheet, work, addr, val0, val1);
+        let answer = stepped.answer;
+        let RunAnswer::Done = answer else {
+            return answer;
+        };
+        let next = stepped.state;
+        at = next;
+        done += 1;
+    }
+    RunAnswer::Done
+}
+
+// Opens the image under the example's sheet, and goes the rounds.
+pub fn run(
+    image: &mut [u8],
+    log: &mut [u8],
+    work: &mut [u8],
+    addr: usize,
+    val0: u8,
+    val1: u8,
+    rounds: u64,
+) -> RunAnswer
+    ensures { λ r. ⌜ Runs (now (image .entry)) (now (log .entry)) (now (work .entry)) addr val0 val1 rounds r (now (image .exit)) (now (log .exit)) (now (work .exit)) ⌝ }
+{
+    let asked = fits(image.len(), log.len(), work.len(), addr, rounds);
+    if let Answer::Refused(why) = asked {
+        return RunAnswer::Refused(why);
+    }
+    let sheet = app_sheet(addr, val0, val1);
+    let opened = open(fresh(), image, log, &sheet);
+    let answer = opened.answer;
+    if let Answer::Refused(why) = answer {
+        return RunAnswer::Refused(why);
+    }
+    let state = opened.state;
+    repeat(state, image, log, &sheet, work, addr, val0, val1, rounds)
+}

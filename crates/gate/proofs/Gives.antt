@@ -1,0 +1,127 @@
+-- What a good opening and an admitted write give a session: a sound state of the right size, the view that the original has, and that every image
+-- which a cut could then leave obeys the sheet. Assumes nothing.
+use Prim.Native.Nat.{ℕ, _<_}
+use native.Mathlib.Omega.{arith}
+use mathlib.Core.Path.{_≡_, refl, sym, ap, ap₂, subst, subst⁻¹, _∙_}
+use mathlib.Core.Logic.{_↔_}
+use mathlib.Core.Bool.{true}
+use mathlib.Core.List.{List}
+use lib.ListN.{length}
+use Rattle.region.specs.Limits.{writes-limit, const-persistence-chunk-size}
+use Rattle.region.specs.Pmemspec.{update-bytes}
+use Rattle.region.specs.Answer.{answer-number}
+use Rattle.region.specs.declared.Refusal.{Refusal}
+use Rattle.region.specs.declared.Answer.{Answer}
+use Rattle.region.specs.declared.Answer.the-variants.{Done}
+use Rattle.region.proofs.AnswerLaws.{answers-by-number, done-changed, not-done, refusal-not-done}
+use Rattle.replay.specs.AsyncSpec.{AsyncView, write, readable, can-crash}
+use Rattle.cuts.proofs.Always.{cut-of-nothing}
+use Rattle.sheet.specs.Sheet.{obeys}
+use Rattle.writelog.specs.State.{log-records, together, view, appended, emptied}
+use Rattle.writelog.specs.Write.{write-number}
+use Rattle.writelog.specs.declared.state.State.{State}
+use Rattle.writelog.proofs.Soundness.{Sound, sound-facts}
+use Rattle.writelog.proofs.WriteLaws.{Room, write-sound}
+use Rattle.writelog.proofs.Views.{view-of-recorded, sound-after-recorded, sized-of-appended, view-of-emptied, sound-after-emptied}
+use Rattle.gate.specs.declared.Verdict.{Verdict}
+use Rattle.gate.specs.declared.Verdict.the-variants.{Admitted, Denied, Refused}
+use Rattle.gate.specs.Opening.{fresh, Opens}
+use Rattle.gate.specs.Judgement.{verdict-report, judge-number, Judges, Gates}
+use Rattle.gate.specs.Meaning.{Fits, Openable}
+use Rattle.gate.proofs.OpeningLaws.{opens-exactly-if}
+use Rattle.gate.proofs.JudgementLaws.{fits-room, admitted-number, not-admitted-number, refused-work}
+use Rattle.gate.proofs.Meaning.{judge-means, gate-judges}
+
+-- what a session keeps: the state is one that every call accepts, and every image that a cut could leave obeys the sheet
+pub record Holds (image : List ℕ) (st : State) (log sheet : List ℕ) : Type 0 where
+  pub sized : length (st .records) ≡ writes-limit
+  pub facts : Sound (length image) st (length log)
+  pub all-obey : (x : List ℕ) → can-crash const-persistence-chunk-size (view image st log) x → obeys sheet x x ≡ true
+
+-- an empty log over an image that obeys
+pub empty-holds : (image : List ℕ) (st : State) (log sheet : List ℕ) → length (st .records) ≡ writes-limit → Openable image log sheet → Holds image (emptied st) log sheet
+empty-holds image st log sheet sized o =
+    record {
+      sized = sized;
+      facts = sound-after-emptied st (length image) (length log) (o .short) (o .buffer);
+      all-obey = λ x h. let e = cut-of-nothing const-persistence-chunk-size image x .0 (subst (λ (v : AsyncView). can-crash const-persistence-chunk-size v x) (view-of-emptied st image log) h) in
+          ap₂ (obeys sheet) e e ∙ o .obeyed;
+    }
+
+-- opening answers 0 exactly if the image is openable, whatever the state
+module _ (image : List ℕ) (st : State) (log sheet : List ℕ) {answer : Answer} {st′ : State} (p : Opens image st log sheet answer st′) where
+  pub opens-means : (answer ≡ Done) ↔ Openable image log sheet
+  opens-means = (
+    λ d. opens-exactly-if image log sheet .0 (sym (p .answers) ∙ ap answer-number d),
+    λ o. answers-by-number answer Done (p .answers ∙ opens-exactly-if image log sheet .1 o),
+  )
+
+  pub opened-fresh : answer ≡ Done → st′ ≡ fresh
+  opened-fresh d = p .state-after ∙ sym (done-changed fresh st (sym (p .answers) ∙ ap answer-number d))
+
+  pub opened-holds : answer ≡ Done → Holds image st′ log sheet
+  opened-holds d = subst⁻¹ (λ (s : State). Holds image s log sheet) (opened-fresh d) (empty-holds image fresh log sheet refl (opens-means .0 d))
+
+module _ (image : List ℕ) (st : State) (log sheet work : List ℕ) (addr : ℕ) (bytes : List ℕ) where
+  -- a write that fits is one that a plain write accepts
+  pub fits-written : Fits image st log sheet work addr bytes → write-number image st log addr (length bytes) ≡ 0
+  fits-written f = write-sound image st log addr (length bytes) (f .good) ∙ fits-room image st log sheet work addr bytes f
+
+  -- Once an admitted write is recorded, by whichever call, the log has it at its end and every image that a cut could leave obeys.
+  pub recorded-holds : length (st .records) ≡ writes-limit → Fits image st log sheet work addr bytes
+      → ((x : List ℕ) → can-crash const-persistence-chunk-size (write (view image st log) addr bytes) x → obeys sheet x x ≡ true)
+      → (view image (appended st addr (length bytes)) (update-bytes log (together (log-records st)) bytes) ≡ write (view image st log) addr bytes)
+      × Holds image (appended st addr (length bytes)) (update-bytes log (together (log-records st)) bytes) sheet
+  recorded-holds sized f all =
+      let facts = sound-facts (length image) st (length log) (f .good) in
+      let room : Room (length image) st addr (length bytes) = record { lies = f .lies; few = f .few-writes; fits = f .few-bytes } in
+      let seen = view-of-recorded image st log addr bytes sized facts room in (
+        seen,
+        record {
+          sized = sized-of-appended st addr (length bytes) sized (f .few-writes);
+          facts = sound-after-recorded image st log addr bytes sized facts room;
+          all-obey = λ x h. all x (subst (λ (v : AsyncView). can-crash const-persistence-chunk-size v x) seen h);
+        },
+      )
+
+  -- an admitted judging call, whose write is recorded by another call in that same state
+  pub judged-holds : {answer : Verdict} {work′ : List ℕ} → length (st .records) ≡ writes-limit → Judges image st log sheet work addr bytes answer work′ → {n : ℕ} → answer ≡ Admitted n
+      → (write-number image st log addr (length bytes) ≡ 0)
+      × (view image (appended st addr (length bytes)) (update-bytes log (together (log-records st)) bytes) ≡ write (view image st log) addr bytes)
+      × Holds image (appended st addr (length bytes)) (update-bytes log (together (log-records st)) bytes) sheet
+  judged-holds sized j {n} a =
+      let means = judge-means image st log sheet work addr bytes j .admits .0 (n, a) in
+      let held = recorded-holds sized (means .0) (means .1) in
+      (fits-written (means .0), held .0, held .1)
+
+  module _ {answer : Verdict} {st′ : State} {log′ work′ : List ℕ} (g : Gates image st log sheet work addr bytes answer st′ log′ work′) where
+    -- an admitted write by the gate
+    pub gated-holds : length (st .records) ≡ writes-limit → {n : ℕ} → answer ≡ Admitted n
+        → (view image st′ log′ ≡ write (view image st log) addr bytes) × Holds image st′ log′ sheet × (work′ ≡ readable (view image st′ log′))
+    gated-holds sized {n} a =
+        let j = gate-judges image st log sheet work addr bytes g in
+        let none = admitted-number image st log sheet work addr bytes j a in
+        let held = judged-holds sized j a in
+        let s : st′ ≡ appended st addr (length bytes) = g .state-after ∙ sym (done-changed (appended st addr (length bytes)) st none) in
+        let l : log′ ≡ update-bytes log (together (log-records st)) bytes = g .log-after ∙ sym (done-changed (update-bytes log (together (log-records st)) bytes) log none) in
+        let seen : view image st′ log′ ≡ write (view image st log) addr bytes = ap₂ (view image) s l ∙ held .1 in (
+          seen,
+          subst⁻¹ (λ (b : List ℕ). Holds image st′ b sheet) l (subst⁻¹ (λ (t : State). Holds image t (update-bytes log (together (log-records st)) bytes) sheet) s (held .2)),
+          judge-means image st log sheet work addr bytes j .admitted-leaves n a .1 ∙ ap readable (sym seen),
+        )
+
+    -- any other answer leaves state and log as they were
+    pub not-admitted-left : 0 < verdict-report answer .number → (st′ ≡ st) × (log′ ≡ log)
+    not-admitted-left h =
+        let some = not-admitted-number image st log sheet work addr bytes (gate-judges image st log sheet work addr bytes g) h in (
+          g .state-after ∙ not-done (judge-number image st log sheet work addr bytes) (appended st addr (length bytes)) st some,
+          g .log-after ∙ not-done (judge-number image st log sheet work addr bytes) (update-bytes log (together (log-records st)) bytes) log some,
+        )
+
+    pub denied-left : {m : ℕ} → answer ≡ Denied m → (st′ ≡ st) × (log′ ≡ log)
+    denied-left d = not-admitted-left (rw d (omega arith))
+
+    pub refused-left : {why : Refusal} → answer ≡ Refused why → (st′ ≡ st) × (log′ ≡ log) × (work′ ≡ work)
+    refused-left {why} d =
+        let same = not-admitted-left (rw d (refusal-not-done why)) in
+        (same .0, same .1, refused-work image st log sheet work addr bytes (gate-judges image st log sheet work addr bytes g) d)

@@ -1,0 +1,115 @@
+-- Demand 2: what the gate's answer means, for every outcome that its promise allows. Assumes nothing.
+use Prim.Native.Nat.{ℕ, zero, suc}
+use native.Mathlib.Nat.{suc-ne-zero}
+use mathlib.Core.Path.{_≡_, refl, sym, ap, subst, fun-ext, _∙_}
+use mathlib.Core.Logic.{_↔_}
+use mathlib.Core.Bool.{Bool, true, false}
+use mathlib.Core.List.{List, [], _∷_}
+use lib.Dec.{lit<}
+use lib.ListN.{length}
+use Rattle.region.specs.Limits.{const-persistence-chunk-size}
+use Rattle.region.specs.Answer.{Report}
+use Rattle.region.specs.declared.Refusal.{Refusal}
+use Rattle.region.specs.declared.Answer.the-variants as answers
+use Rattle.region.proofs.AnswerLaws.{answers-by-number}
+use Rattle.replay.specs.AsyncSpec.{AsyncView, write, readable, can-crash}
+use Rattle.verdict.specs.Search as search
+use Rattle.verdict.specs.Covering.{Rule, after-alone}
+use Rattle.verdict.specs.Gate.{gate-verdict, judges-images}
+use Rattle.verdict.proofs.Gate.{gate-judges-images}
+use Rattle.sheet.specs.Sheet.{obeys}
+use Rattle.sheet.proofs.Laws.{before-unseen}
+use Rattle.writelog.specs.State.{view}
+use Rattle.writelog.specs.declared.state.State.{State}
+use Rattle.engine.specs.Search.{sheet-verdict, sheet-image}
+use Rattle.gate.specs.declared.Verdict.{Verdict}
+use Rattle.gate.specs.declared.Verdict.the-variants.{Admitted, Denied, Refused}
+use Rattle.gate.specs.Judgement.{denied-number, verdict-report, Judgement, refused, tried, gate-points, judgement, judgement-report, judgement-work, judge-report, judge-number, Judges, Gates}
+use Rattle.gate.specs.Meaning.{Fits, Means, could-leave, image-of}
+use Rattle.gate.proofs.JudgementLaws.{J, nothing-reported, one-value, fitting-tried, number-0-fits, report-8-fits, admitted-number}
+
+-- the numbers and values of document 01 tell the verdicts apart
+pub verdicts-by-report : (a b : Verdict) → verdict-report a ≡ verdict-report b → a ≡ b
+verdicts-by-report (Admitted n) (Admitted k) e = ap Admitted (one-value (ap (λ (r : Report). r .values) e))
+verdicts-by-report (Admitted n) (Denied m) e = absurd (suc-ne-zero 7 (sym (ap (λ (r : Report). r .number) e)))
+verdicts-by-report (Admitted n) (Refused why) e = absurd (nothing-reported (sym (ap (λ (r : Report). r .values) e)))
+verdicts-by-report (Denied m) (Admitted n) e = absurd (suc-ne-zero 7 (ap (λ (r : Report). r .number) e))
+verdicts-by-report (Denied m) (Denied k) e = ap Denied (one-value (ap (λ (r : Report). r .values) e))
+verdicts-by-report (Denied m) (Refused why) e = absurd (nothing-reported (sym (ap (λ (r : Report). r .values) e)))
+verdicts-by-report (Refused why) (Admitted n) e = absurd (nothing-reported (ap (λ (r : Report). r .values) e))
+verdicts-by-report (Refused why) (Denied m) e = absurd (nothing-reported (ap (λ (r : Report). r .values) e))
+verdicts-by-report (Refused why) (Refused reason) e = ap Refused (same-refusal (answers-by-number (answers.Refused why) (answers.Refused reason) (ap (λ (r : Report). r .number) e)))
+  where
+    same-refusal : {a b : Refusal} → answers.Refused a ≡ answers.Refused b → a ≡ b
+    same-refusal e = cc
+
+-- the rule of a sheet looks at the image after alone
+rule-alone : (sheet : List ℕ) → _≡_ {A = Rule} (λ before after. obeys sheet before after) (after-alone (λ x. obeys sheet x x))
+rule-alone sheet = fun-ext (λ before. fun-ext (λ after. before-unseen sheet before after after))
+
+module _ (image : List ℕ) (st : State) (log sheet work : List ℕ) (addr : ℕ) (bytes : List ℕ) where
+  abbrev v : AsyncView
+  v = view image st log
+
+  abbrev verdict-on : search.Verdict
+  verdict-on = sheet-verdict sheet v addr bytes
+
+  judged : judges-images const-persistence-chunk-size (λ x. obeys sheet x x) v addr bytes verdict-on
+  judged =
+      subst (λ (rule : Rule). judges-images const-persistence-chunk-size (λ x. obeys sheet x x) v addr bytes (gate-verdict const-persistence-chunk-size rule v addr bytes)) (sym (rule-alone sheet))
+      (gate-judges-images const-persistence-chunk-size (lit< tt) v addr bytes (λ x. obeys sheet x x))
+
+  module _ {answer : Verdict} {work′ : List ℕ} (p : Judges image st log sheet work addr bytes answer work′) where
+    -- what a write that fits gets, by the engine's verdict
+    answered : (r : search.Verdict) (a : Verdict) → verdict-report a ≡ judgement-report (gate-points image st log addr bytes) (tried r) → Fits image st log sheet work addr bytes → verdict-on ≡ r → answer ≡ a
+    answered r a report f e =
+        verdicts-by-report answer a (p .answers ∙ ap (judgement-report (gate-points image st log addr bytes)) (fitting-tried image st log sheet work addr bytes f ∙ ap tried e) ∙ sym report)
+
+    left : (r : search.Verdict) → Fits image st log sheet work addr bytes → verdict-on ≡ r → work′ ≡ sheet-image v addr bytes r
+    left r f e = p .work-after ∙ ap (λ (j : Judgement). judgement-work v addr bytes j work) (fitting-tried image st log sheet work addr bytes f ∙ ap tried e)
+
+    admitted-fits : (n : ℕ) → answer ≡ Admitted n → Fits image st log sheet work addr bytes × (verdict-on ≡ search.admit)
+    admitted-fits n a = number-0-fits image st log sheet work addr bytes (admitted-number image st log sheet work addr bytes p a)
+
+    denied-fits : (m : ℕ) → answer ≡ Denied m → Fits image st log sheet work addr bytes × (verdict-on ≡ search.deny m)
+    denied-fits m d = report-8-fits image st log sheet work addr bytes m (sym (p .answers) ∙ ap verdict-report d)
+
+    admitted-so : Fits image st log sheet work addr bytes → verdict-on ≡ search.admit → (n : ℕ) × (answer ≡ Admitted n)
+    admitted-so f e = (gate-points image st log addr bytes, answered search.admit (Admitted (gate-points image st log addr bytes)) refl f e)
+
+    denied-so : (m : ℕ) → Fits image st log sheet work addr bytes → verdict-on ≡ search.deny m → answer ≡ Denied m
+    denied-so m f e = answered (search.deny m) (Denied m) refl f e
+
+    -- the theorem of the gate
+    pub judge-means : Means image st log sheet work addr bytes answer work′
+    judge-means =
+        record {
+          admits = (
+            λ a. let f = admitted-fits (a .0) (a .1) in (f .0, judged .admits .0 (f .1)),
+            λ f. admitted-so (f .0) (judged .admits .1 (f .1)),
+          );
+          by-part-writes = (
+            λ a. let f = admitted-fits (a .0) (a .1) in (f .0, judged .by-part-writes .0 (f .1)),
+            λ f. admitted-so (f .0) (judged .by-part-writes .1 (f .1)),
+          );
+          denies = (
+            λ d. let f = denied-fits (d .0) (d .1) in (f .0, judged .denies .0 (d .0, f .1)),
+            λ f. let d = judged .denies .1 (f .1) in (d .0, denied-so (d .0) (f .0) (d .1)),
+          );
+          names-the-first = λ m. (
+            λ d. let f = denied-fits m d in (f .0, judged .names-the-first m .0 (f .1)),
+            λ f. denied-so m (f .0) (judged .names-the-first m .1 (f .1)),
+          );
+          admitted-leaves = λ n a. let f = admitted-fits n a in (
+            one-value (ap (λ (r : Report). r .values) (sym (ap verdict-report a) ∙ ap verdict-report (answered search.admit (Admitted (gate-points image st log addr bytes)) refl (f .0) (f .1)))),
+            left search.admit (f .0) (f .1),
+          );
+          denied-leaves = λ m d. let f = denied-fits m d in left (search.deny m) (f .0) (f .1);
+        }
+
+  -- the gate answers as the judging call does
+  pub gate-judges : {answer : Verdict} {st′ : State} {log′ work′ : List ℕ} → Gates image st log sheet work addr bytes answer st′ log′ work′ → Judges image st log sheet work addr bytes answer work′
+  gate-judges g = record { answers = g .answers; work-after = g .work-after }
+
+  pub gate-means : {answer : Verdict} {st′ : State} {log′ work′ : List ℕ} → Gates image st log sheet work addr bytes answer st′ log′ work′ → Means image st log sheet work addr bytes answer work′
+  gate-means g = judge-means (gate-judges g)

@@ -1,0 +1,1 @@
+-- The histories are stated with the definitions of `session` and of the calls alone.

@@ -1,0 +1,72 @@
+-- Demand 3. Along a run the view is the replay of the history, and every image that a cut could leave obeys the sheet: a good opening begins so, and
+-- every step keeps it. Assumes nothing.
+use Prim.Native.Nat.{ℕ}
+use native.Mathlib.Omega.{arith}
+use mathlib.Core.Path.{_≡_, refl, ap, _∙_}
+use mathlib.Core.List.{List}
+use lib.Dec.{lit<}
+use lib.ListN.{length}
+use Rattle.region.specs.Limits.{const-persistence-chunk-size, log-limit}
+use Rattle.region.specs.declared.Answer.{Answer}
+use Rattle.region.specs.declared.Answer.the-variants.{Done}
+use Rattle.replay.specs.AsyncSpec.{AsyncView, can-crash}
+use Rattle.cuts.proofs.Always.{cut-could-leave-the-last-flush}
+use Rattle.writelog.specs.declared.state.State.{State}
+use Rattle.writelog.proofs.Views.{view-of-emptied}
+use Rattle.gate.specs.Opening.{fresh, Opens}
+use Rattle.gate.proofs.Gives.{opens-means, opened-fresh, opened-holds}
+use Rattle.session.specs.History.{History, opening, happen, replay}
+use Rattle.session.specs.Run.{Desk, desk, seen, Run, opened, _and_, throughout}
+use Rattle.session.specs.Theorem.{Session}
+use Rattle.session.proofs.Keeps.{HoldsAt}
+use Rattle.session.proofs.Steps.{step-keeps}
+
+-- what holds along a run
+pub record Invariant (sheet image : List ℕ) (h : History) (d : Desk) : Type 0 where
+  pub holds : HoldsAt sheet d
+  pub replayed : seen d ≡ replay const-persistence-chunk-size image h
+
+module _ (sheet image : List ℕ) where
+  begins : {st : State} {log : List ℕ} {st′ : State} → Opens image st log sheet Done st′ → Invariant sheet image opening (desk image st′ log)
+  unfolding replay
+  begins {st} {log} p =
+      record {
+        holds = opened-holds image st log sheet p refl;
+        replayed = ap (λ (t : State). seen (desk image t log)) (opened-fresh image st log sheet p refl) ∙ view-of-emptied fresh image log;
+      }
+
+  pub invariant : {h : History} {d : Desk} → Run sheet image h d → Invariant sheet image h d
+  unfolding replay
+  invariant (opened o) = begins o
+  invariant (_and_ {e = e} r s) =
+      let before = invariant r in
+      let kept = step-keeps sheet (before .holds) s in
+      record { holds = kept .holds; replayed = kept .happened ∙ ap (λ (v : AsyncView). happen const-persistence-chunk-size v e) (before .replayed) }
+
+  -- the theorem
+  pub session : {h : History} {d : Desk} → Run sheet image h d → Session sheet image h d
+  session r =
+      let i = invariant r in
+      record {
+        cuts-obey = i .holds .all-obey;
+        next-opening-done = λ x c {st} {log} {answer} {st′} l p. opens-means x st log sheet p .1
+            (record { short = omega (arith, c .1 .same-length, i .holds .facts .short); buffer = l; obeyed = i .holds .all-obey x c });
+        image-is-the-replay = ap (λ (v : AsyncView). v .state-at-last-flush) (i .replayed);
+        outstanding-are-the-replay = ap (λ (v : AsyncView). v .outstanding-writes) (i .replayed);
+      }
+
+  -- and at every prefix
+  pub session-throughout : {h : History} {d : Desk} (r : Run sheet image h d) → throughout sheet (Session sheet image) r
+  unfolding throughout
+  session-throughout (opened o) = session (opened o)
+  session-throughout (r and s) = (session-throughout r, session (r and s))
+
+  module _ {h : History} {d : Desk} (r : Run sheet image h d) {st : State} {log : List ℕ} {answer : Answer} {st′ : State} (buffer : length log ≡ log-limit) where
+    -- the image as it lies there opens
+    pub image-opens : Opens (d .image) st log sheet answer st′ → answer ≡ Done
+    image-opens p = session r .next-opening-done (d .image) (cut-could-leave-the-last-flush const-persistence-chunk-size (lit< tt) (seen d)) buffer p
+
+    -- What `main_after_crash` of power_sound_t.rs assumes as `held_before_crash`: whatever image the power loss leaves of a session, the opening that
+    -- follows it begins a session.
+    pub held-before-crash : (x : List ℕ) → can-crash const-persistence-chunk-size (seen d) x → Opens x st log sheet answer st′ → Run sheet x opening (desk x st′ log)
+    held-before-crash x c p = opened (rw (session r .next-opening-done x c buffer p) at p)

@@ -1,0 +1,71 @@
+-- Demand 3, by tape: "With a tape of cut choices fixed beforehand, and every recorded write, flush and cut going by it, the image predicted at each step
+-- is the replay with those choices." `tape-session : TapeRun sheet tape image h d start → TapeSession sheet tape image h d start`
+-- (`proofs/TapeTheorem.antt`).
+use Prim.Native.Nat.{ℕ, _+_}
+use mathlib.Core.Path.{_≡_}
+use mathlib.Core.List.{List}
+use lib.ListN.{length}
+use Rattle.region.specs.Limits.{const-persistence-chunk-size}
+use Rattle.region.specs.declared.Answer.the-variants.{Done}
+use Rattle.replay.specs.AsyncSpec.{AsyncView, write}
+use Rattle.cuts.specs.Bits.{chunks}
+use Rattle.writelog.specs.declared.state.State.{State}
+use Rattle.writelog.specs.declared.cut.CutAnswer.the-variants.{Kept}
+use Rattle.tape.specs.Epoch.{row-place}
+use Rattle.tape.specs.Foretold.{predicted-image}
+use Rattle.tape.specs.Write.{TapeWrites}
+use Rattle.tape.specs.Flush.{TapeFlushes}
+use Rattle.tape.specs.Cut.{TapeCuts}
+use Rattle.session.specs.History.{Event, nothing, written, flushed, cut-by, reopened, History, opening, _then_, settled}
+use Rattle.session.specs.Run.{Desk, seen}
+use Rattle.session.specs.Theorem.{Session}
+
+-- what the events and the tape tell between them: a view, and where its epoch starts
+pub record Told : Type 0 where
+  pub view : AsyncView
+  pub start : ℕ
+
+module _ (C : ℕ) (tape : List ℕ) where
+  -- The image predicted: the replay of the outstanding writes with the epoch's rows, all kept under header 80.
+  abbrev pub predicted-of : Told → List ℕ
+  predicted-of t = predicted-image C tape (t .start) (t .view)
+
+  -- the end of an epoch, past its header and rows
+  abbrev pub epoch-over : Told → Told
+  epoch-over t =
+      record { view = settled (predicted-of t); start = row-place (chunks C (t .view)) (t .start) (length (t .view .outstanding-writes)) }
+
+  -- The tape alone chooses: that a cut came is told by the event, what it kept by the tape.
+  unfoldable pub tell : Told → Event → Told
+  tell t nothing = t
+  tell t (written addr bytes) = record { view = write (t .view) addr bytes; start = t .start }
+  tell t flushed = epoch-over t
+  tell t (cut-by table at) = epoch-over t
+  tell t reopened = t
+
+  -- the replay of a history with the tape's choices
+  unfoldable pub replay-by-tape : List ℕ → History → Told
+  replay-by-tape image opening = record { view = settled image; start = 0 }
+  replay-by-tape image (h then e) = tell (replay-by-tape image h) e
+
+  abbrev pub prediction : List ℕ → History → List ℕ
+  prediction image h = predicted-of (replay-by-tape image h)
+
+pub record TapeSession (sheet tape image : List ℕ) (h : History) (d : Desk) (start : ℕ) : Type 0 where
+  -- a session by tape is a session
+  pub session : Session sheet image h d
+  -- the image found and the outstanding writes are the replay with the tape's choices
+  pub view-is-told : seen d ≡ replay-by-tape const-persistence-chunk-size tape image h .view
+  pub start-is-told : start ≡ replay-by-tape const-persistence-chunk-size tape image h .start
+  -- a write that the tape call accepts next leaves the prediction with it in the history
+  pub write-predicts : {predicted : List ℕ} {addr : ℕ} {bytes : List ℕ} {st′ : State} {log′ predicted′ : List ℕ}
+      → TapeWrites (d .image) (d .state) (d .log) tape start predicted addr bytes Done st′ log′ predicted′
+      → predicted′ ≡ prediction const-persistence-chunk-size tape image (h then written addr bytes)
+  -- a flush or a cut that it accepts next leaves what was predicted, and that is the prediction of the next epoch's beginning
+  pub flush-leaves-the-prediction : {predicted : List ℕ} {st′ : State} {start′ : ℕ} {image′ predicted′ : List ℕ}
+      → TapeFlushes (d .image) (d .state) (d .log) tape start predicted Done st′ start′ image′ predicted′
+      → (image′ ≡ prediction const-persistence-chunk-size tape image h) × (predicted′ ≡ prediction const-persistence-chunk-size tape image (h then flushed))
+  pub cut-leaves-the-prediction : {predicted : List ℕ} {k : ℕ} {st′ : State} {start′ : ℕ} {image′ predicted′ : List ℕ}
+      → TapeCuts (d .image) (d .state) (d .log) tape start predicted (Kept k) st′ start′ image′ predicted′
+      → (image′ ≡ prediction const-persistence-chunk-size tape image h)
+      × (predicted′ ≡ prediction const-persistence-chunk-size tape image (h then cut-by tape (start + 1)))

@@ -1,0 +1,28 @@
+-- Demand 3. For every run that a good opening begins, at its end: `session : Run sheet image h d → Session sheet image h d` (`proofs/Theorem.antt`).
+-- The end of every prefix of a run is the end of a run (`session-throughout`).
+use Prim.Native.Nat.{ℕ}
+use mathlib.Core.Path.{_≡_}
+use mathlib.Core.Bool.{true}
+use mathlib.Core.List.{List}
+use lib.ListN.{length}
+use Rattle.region.specs.Limits.{const-persistence-chunk-size, log-limit}
+use Rattle.region.specs.declared.Answer.{Answer}
+use Rattle.region.specs.declared.Answer.the-variants.{Done}
+use Rattle.replay.specs.AsyncSpec.{committed, can-crash}
+use Rattle.sheet.specs.Sheet.{obeys}
+use Rattle.writelog.specs.declared.state.State.{State}
+use Rattle.gate.specs.Opening.{Opens}
+use Rattle.session.specs.History.{History, replay}
+use Rattle.session.specs.Run.{Desk, seen}
+
+pub record Session (sheet image : List ℕ) (h : History) (d : Desk) : Type 0 where
+  -- "every image that a cut could leave obeys the sheet": any rows of the right shape
+  pub cuts-obey : (x : List ℕ) → can-crash const-persistence-chunk-size (seen d) x → obeys sheet x x ≡ true
+  -- "the next opening, given buffers of the right size, is never refused": over any state and any log bytes, whatever of the outstanding writes is lost
+  -- before it. The image as it lies there is one that a cut could leave.
+  pub next-opening-done : (x : List ℕ) → can-crash const-persistence-chunk-size (seen d) x
+      → {st : State} {log : List ℕ} {answer : Answer} {st′ : State} → length log ≡ log-limit → Opens x st log sheet answer st′ → answer ≡ Done
+  -- "the image found is the one that replaying the history gives"
+  pub image-is-the-replay : d .image ≡ committed (replay const-persistence-chunk-size image h)
+  -- and so are the writes that a flush or cut would settle next
+  pub outstanding-are-the-replay : seen d .outstanding-writes ≡ replay const-persistence-chunk-size image h .outstanding-writes

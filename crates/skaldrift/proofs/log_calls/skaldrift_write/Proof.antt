@@ -1,0 +1,69 @@
+-- `skaldrift_write` meets its contract: words of another number are refused before anything is touched, and the others are a state, at which the write keeps its promise.
+-- Assumes nothing.
+use Rattle.skaldrift.proofs.LogLaws.{write-wrong, write-right}
+use borrow.Author.Needs.{needs}
+use Rattle.skaldrift.proofs.log_calls.skaldrift_write.Statement.{statement}
+use Rattle.skaldrift.proofs.log_calls.skaldrift_write.Tie as tie
+use Rattle.skaldrift.proofs.log_calls.skaldrift_write.Reads as reads
+use Rattle.skaldrift.proofs.log_calls.skaldrift_write.Lts as lts
+use Rattle.region.proofs.numbers.answer_number.Reads as answer-number-reads
+use Rattle.region.proofs.numbers.refusal_number.Reads as refusal-number-reads
+use Rattle.skaldrift.proofs.words.loaded.Reads as loaded-reads
+use Rattle.skaldrift.proofs.words.stored.Reads as stored-reads
+use Rattle.writelog.proofs.write.write.Reads as write-reads
+
+-- src/log_calls.rt:38:9
+refusal-number-requires : tie.Need-refusal-number-requires
+refusal-number-requires c κs = search needs
+
+-- src/log_calls.rt:38:9
+returns : tie.Need-returns
+returns c = let a = c .before .before .before .before .before .before .args in
+    write-wrong (a .state .now) (a .image .now) (a .log .now) (a .addr) (a .«data» .now) (c .before .if1 .taken) (c .refusal-number .ensures)
+
+-- src/log_calls.rt:40:22
+loaded-requires : tie.Need-loaded-requires
+loaded-requires c κs = search needs
+
+-- src/log_calls.rt:40:9
+write-requires : tie.Need-write-requires
+write-requires c κs = search needs
+
+-- src/log_calls.rt:41:5
+stored-requires : tie.Need-stored-requires
+stored-requires c κs = search needs
+
+-- src/log_calls.rt:43:5
+answer-number-requires : tie.Need-answer-number-requires
+answer-number-requires c κs = search needs
+
+-- src/log_calls.rt:27:1
+same-length : tie.Need-same-length
+same-length c = search needs
+
+-- src/log_calls.rt:27:1
+same-length-2 : tie.Need-same-length-2
+same-length-2 c = search needs
+
+-- src/log_calls.rt:27:1
+returns-2 : tie.Need-returns-2
+returns-2 c = let at-stored = c .before .before .before in
+    let at-write = at-stored .before .before .before .before in
+    let at-loaded = at-write .before .before in
+    let at-test = at-loaded .before .before in
+    let a = at-test .before .before .before .before .before .args in
+    write-right (a .state .now) (a .image .now) (a .log .now) (a .addr) (a .«data» .now) (at-test .if1 .left) (at-loaded .loaded .ensures) (at-write .write .ensures) (at-stored .stored .ensures) (c .answer-number .ensures)
+
+pub skaldrift-write-spec : {M : Type 1} → statement M
+skaldrift-write-spec =
+    tie.close
+    (tie.spec
+    refusal-number-requires
+    returns
+    loaded-requires
+    write-requires
+    stored-requires
+    answer-number-requires
+    same-length
+    same-length-2
+    returns-2)

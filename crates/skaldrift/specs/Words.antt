@@ -1,0 +1,37 @@
+-- The state as it crosses to another language: 65 words of 64 bits, the count and then address and length of each record, oldest record first. A state of
+-- another length is refusal 1 at every call.
+use Prim.Native.Nat.{ℕ, _+_, _*_}
+use mathlib.Core.List.{List, [], _∷_}
+use lib.Dec.{eqb}
+use lib.ListN.{length, getD, drop}
+use Rattle.region.specs.Limits.{writes-limit}
+use Rattle.region.specs.Answer.{Report, unless}
+use Rattle.writelog.specs.declared.state.Record.{Record}
+use Rattle.writelog.specs.declared.state.State.{State}
+
+abbrev pub state-words : ℕ
+state-words = 1 + 2 * writes-limit
+
+-- the records that a row of words says, two words each
+unfoldable pub records-of : List ℕ → List Record
+records-of [] = []
+records-of (addr ∷ []) = []
+records-of (addr ∷ (len ∷ words)) = record { addr = addr; len = len } ∷ records-of words
+
+unfoldable pub record-words : List Record → List ℕ
+record-words [] = []
+record-words (r ∷ rs) = r .addr ∷ (r .len ∷ record-words rs)
+
+abbrev pub state-of : List ℕ → State
+state-of words = record { count = getD words 0 0; records = records-of (drop 1 words) }
+
+abbrev pub words-of : State → List ℕ
+words-of st = st .count ∷ record-words (st .records)
+
+-- `report` afterwards: the n, m or kept that a call reports, or what it held where the call reports nothing
+abbrev pub reported : Report → ℕ → ℕ
+reported r held = getD (r .values) 0 held
+
+-- what a call makes of the state that the words say, where they are as many as a state has, and its refusal otherwise
+abbrev pub of-state {ℓ} : {A : Type ℓ} → List ℕ → A → (State → A) → A
+of-state words refused call = unless (eqb (length words) state-words) refused (call (state-of words))

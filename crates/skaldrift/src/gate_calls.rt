@@ -1,0 +1,93 @@
+// Opening, the judging call and the gate.
+use crate::words::STATE_WORDS;
+use crate::words::loaded;
+use crate::words::stored;
+use gate::Verdict;
+use gate::gate::gate;
+use gate::judge::judge;
+use gate::open::open;
+use region::Refusal;
+use region::numbers::answer_number;
+use region::numbers::refusal_number;
+ghost use mathlib.Core.Path.{_≡_};
+ghost use Rattle.gate.specs.Judgement.{verdict-report};
+ghost use Rattle.skaldrift.specs.Words.{reported};
+ghost use Rattle.skaldrift.specs.Gate.{SkaldriftOpen, SkaldriftJudge, SkaldriftGate};
+
+// Judges the image and starts an empty log. Of the state only its length is looked at.
+#[no_mangle]
+pub extern "C" fn skaldrift_open(state: &mut [u64], image: &[u8], log: &[u8], sheet: &[u8]) -> u64
+    ensures { λ r. ⌜ SkaldriftOpen (now (state .entry)) (now (image .entry)) (now (log .entry)) (now (sheet .entry)) r (now (state .exit)) ⌝ }
+{
+    if state.len() != STATE_WORDS {
+        return refusal_number(Refusal::BadState);
+    }
+    let before = loaded(state);
+    let opened = open(before, image, log, sheet);
+    stored(state, opened.state);
+    let answer = opened.answer;
+    answer_number(answer)
+}
+
+// A verdict's number; its n or m goes to `report`.
+pub fn verdict_number(verdict: Verdict, report: &mut u64) -> u64
+    ensures { λ r. ⌜ (r ≡ verdict-report verdict .number) × (now (report .exit) ≡ reported (verdict-report verdict) (now (report .entry))) ⌝ }
+{
+    match verdict {
+        Verdict::Admitted(n) => {
+            *report = n as u64;
+            0
+        }
+        Verdict::Denied(m) => {
+            *report = m as u64;
+            8
+        }
+        Verdict::Refused(why) => refusal_number(why),
+    }
+}
+
+// What the gate would answer, and the working image that it would leave. Records nothing.
+#[no_mangle]
+pub extern "C" fn skaldrift_judge(
+    state: &[u64],
+    image: &[u8],
+    log: &[u8],
+    sheet: &[u8],
+    work: &mut [u8],
+    addr: u64,
+    data: &[u8],
+    report: &mut u64,
+) -> u64
+    ensures { λ r. ⌜ SkaldriftJudge (now (state .entry)) (now (image .entry)) (now (log .entry)) (now (sheet .entry)) (now (work .entry)) addr (now («data» .entry)) (now (report .entry)) r (now (work .exit)) (now (report .exit)) ⌝ }
+{
+    if state.len() != STATE_WORDS {
+        return refusal_number(Refusal::BadState);
+    }
+    let before = loaded(state);
+    let verdict = judge(before, image, log, sheet, work, addr as usize, data);
+    verdict_number(verdict, report)
+}
+
+// Judges a write of `data` at `addr`, and records it if it is admitted.
+#[no_mangle]
+pub extern "C" fn skaldrift_gate(
+    state: &mut [u64],
+    image: &[u8],
+    log: &mut [u8],
+    sheet: &[u8],
+    work: &mut [u8],
+    addr: u64,
+    data: &[u8],
+    report: &mut u64,
+) -> u64
+    ensures { λ r. ⌜ SkaldriftGate (now (state .entry)) (now (image .entry)) (now (log .entry)) (now (sheet .entry)) (now (work .entry)) addr (now («data» .entry)) (now (report .entry)) r (now (state .exit)) (now (log .exit)) (now (work .exit)) (now (report .exit)) ⌝ }
+{
+    if state.len() != STATE_WORDS {
+        return refusal_number(Refusal::BadState);
+    }
+    let before = loaded(state);
+    let gated = gate(before, image, log, sheet, work, addr as usize, data);
+    stored(state, gated.state);
+    let verdict = gated.verdict;
+    verdict_number(verdict, report)
+}

@@ -1,0 +1,114 @@
+// The log's calls: write, read, flush and cut.
+use crate::words::STATE_WORDS;
+use crate::words::loaded;
+use crate::words::stored;
+use region::Refusal;
+use region::numbers::answer_number;
+use region::numbers::refusal_number;
+use writelog::cut::CutAnswer;
+use writelog::cut::cut;
+use writelog::flush::flush;
+use writelog::read::read_fill;
+use writelog::write::write;
+ghost use mathlib.Core.Path.{_≡_};
+ghost use Rattle.writelog.specs.Cut.{cut-report};
+ghost use Rattle.skaldrift.specs.Words.{state-words, reported};
+ghost use Rattle.skaldrift.specs.Log.{SkaldriftWrite, SkaldriftRead, SkaldriftFlush, SkaldriftCut};
+
+// The words of a state: the length that every other function asks of `state`.
+#[no_mangle]
+pub extern "C" fn skaldrift_state_words() -> u64
+    ensures { λ r. ⌜ r ≡ state-words ⌝ }
+{
+    STATE_WORDS as u64
+}
+
+// Records a write of `data` at `addr`, judged by nobody.
+#[no_mangle]
+pub extern "C" fn skaldrift_write(
+    state: &mut [u64],
+    image: &[u8],
+    log: &mut [u8],
+    addr: u64,
+    data: &[u8],
+) -> u64
+    ensures { λ r. ⌜ SkaldriftWrite (now (state .entry)) (now (image .entry)) (now (log .entry)) addr (now («data» .entry)) r (now (state .exit)) (now (log .exit)) ⌝ }
+{
+    if state.len() != STATE_WORDS {
+        return refusal_number(Refusal::BadState);
+    }
+    let before = loaded(state);
+    let written = write(before, image, log, addr as usize, data);
+    stored(state, written.state);
+    let answer = written.answer;
+    answer_number(answer)
+}
+
+// Fills the working image with the read image. The asked part is the caller's to take: work[addr..addr + len].
+#[no_mangle]
+pub extern "C" fn skaldrift_read(
+    state: &[u64],
+    image: &[u8],
+    log: &[u8],
+    work: &mut [u8],
+    addr: u64,
+    len: u64,
+) -> u64
+    ensures { λ r. ⌜ SkaldriftRead (now (state .entry)) (now (image .entry)) (now (log .entry)) (now (work .entry)) addr len r (now (work .exit)) ⌝ }
+{
+    if state.len() != STATE_WORDS {
+        return refusal_number(Refusal::BadState);
+    }
+    let before = loaded(state);
+    let answer = read_fill(before, image, log, work, addr as usize, len as usize);
+    answer_number(answer)
+}
+
+// Makes the read image the image, and empties the log.
+#[no_mangle]
+pub extern "C" fn skaldrift_flush(state: &mut [u64], image: &mut [u8], log: &[u8]) -> u64
+    ensures { λ r. ⌜ SkaldriftFlush (now (state .entry)) (now (image .entry)) (now (log .entry)) r (now (state .exit)) (now (image .exit)) ⌝ }
+{
+    if state.len() != STATE_WORDS {
+        return refusal_number(Refusal::BadState);
+    }
+    let before = loaded(state);
+    let flushed = flush(before, image, log);
+    stored(state, flushed.state);
+    let answer = flushed.answer;
+    answer_number(answer)
+}
+
+// A cut's number; its kept count goes to `report`.
+pub fn cut_number(answer: CutAnswer, report: &mut u64) -> u64
+    ensures { λ r. ⌜ (r ≡ cut-report answer .number) × (now (report .exit) ≡ reported (cut-report answer) (now (report .entry))) ⌝ }
+{
+    match answer {
+        CutAnswer::Kept(kept) => {
+            *report = kept as u64;
+            0
+        }
+        CutAnswer::Refused(why) => refusal_number(why),
+    }
+}
+
+// Makes the replay with the rows the image, and empties the log.
+#[no_mangle]
+pub extern "C" fn skaldrift_cut(
+    state: &mut [u64],
+    image: &mut [u8],
+    log: &[u8],
+    rows: &[u8],
+    report: &mut u64,
+) -> u64
+    ensures { λ r. ⌜ SkaldriftCut (now (state .entry)) (now (image .entry)) (now (log .entry)) (now (rows .entry)) (now (report .entry)) r (now (state .exit)) (now (image .exit)) (now (report .exit)) ⌝ }
+{
+    if state.len() != STATE_WORDS {
+        return refusal_number(Refusal::BadState);
+    }
+    let before = loaded(state);
+    let after = cut(before, image, log, rows);
+    stored(state, after.state);
+    let answer = after.answer;
+    cut_number(answer, report)
+}

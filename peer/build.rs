@@ -1,0 +1,27 @@
+//! Finds the proved library, but only for the two programs that link it.
+
+use std::env;
+use std::path::PathBuf;
+
+fn main() {
+    println!("cargo::rerun-if-env-changed=SKALDRIFT_LIB");
+    if env::var_os("CARGO_FEATURE_LINKED").is_none() {
+        return;
+    }
+    let here = PathBuf::from(env::var_os("CARGO_MANIFEST_DIR").expect("cargo sets this"));
+    let folder = match env::var_os("SKALDRIFT_LIB") {
+        Some(named) => here.join(named),
+        None => here.join("../target/staticlib"),
+    };
+    let library = folder.join("libskaldrift.a");
+    println!("cargo::rerun-if-changed={}", library.display());
+    if !library.is_file() {
+        println!(
+            "cargo::error={} is missing: make it with `rt staticlib skaldrift`, or set SKALDRIFT_LIB to its folder",
+            library.display()
+        );
+        return;
+    }
+    println!("cargo::rustc-link-search=native={}", folder.display());
+    println!("cargo::rustc-link-lib=static=skaldrift");
+}

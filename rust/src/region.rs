@@ -1,0 +1,326 @@
+//! The table and its log, with every length right by construction.
+use crate::{calls, chunks, done, row_bytes, Refusal, LOG_BYTES, STATE_WORDS};
+use std::ops::{Deref, DerefMut};
+
+/// A buffer of its own, or one that is lent to it.
+enum Held<'a, T: ?Sized> {
+    Own(Box<T>),
+    Lent(&'a mut T),
+}
+
+impl<T: ?Sized> Deref for Held<'_, T> {
+    type Target = T;
+    fn deref(&self) -> &T {
+        match self {
+            Held::Own(own) => own,
+            Held::Lent(lent) => lent,
+        }
+    }
+}
+
+impl<T: ?Sized> DerefMut for Held<'_, T> {
+    fn deref_mut(&mut self) -> &mut T {
+        match self {
+            Held::Own(own) => own,
+            Held::Lent(lent) => lent,
+        }
+    }
+}
+
+/// What the gate says of a write.
+#[derive(Clone, Copy, Debug, PartialEq, Eq)]
+pub enum Verdict<'r> {
+    /// Every image that a cut could leave obeys the sheet.
+    Admitted {
+        /// The choice points of the log and this write.
+        points: u64,
+        /// The read image with the write.
+        image: &'r [u8],
+    },
+    /// Some image that a cut could leave breaks the sheet; nothing is recorded.
+    Denied {
+        /// The least choice number whose image is bad: bit i says whether point i is kept.
+        choice: u64,
+        /// That bad image.
+        image: &'r [u8],
+    },
+    /// The write was not judged.
+    Refused(Refusal),
+}
+
+/// A table under a rule sheet, with the writes that are outstanding on it.
+///
+/// It owns its memory ([`Region::open`]) or borrows it ([`Region::open_in`]), so nothing else touches that memory
+/// while it lives; it keeps the sheet and the length, and hands every call the state as the calls before left it.
+/// Those are the terms on which every image that a cut could leave is proved to obey the sheet, for writes that
+/// [`Region::gate`] has admitted.
+pub struct Region<'a> {
+    state: Held<'a, [u64; STATE_WORDS]>,
+    image: Held<'a, [u8]>,
+    log: Held<'a, [u8; LOG_BYTES]>,
+    sheet: Vec<u8>,
+    work: Vec<u8>,
+}
+
+impl Region<'static> {
+    /// Opens a table in memory of its own: judges the image and starts an empty log. Refused with
+    /// [`Refusal::BadState`] (the image is longer than 4096 bytes), [`Refusal::BadSheet`] or
+    /// [`Refusal::BrokenImage`].
+    pub fn open(image: Vec<u8>, sheet: &[u8]) -> Result<Self, Refusal> {
+        Region {
+            state: Held::Own(Box::new([0; STATE_WORDS])),
+            image: Held::Own(image.into_boxed_slice()),
+            log: Held::Own(Box::new([0; LOG_BYTES])),
+            sheet: sheet.to_vec(),
+            work: Vec::new(),
+        }
+        .opened()
+    }
+}
+
+impl<'a> Region<'a> {
+    /// Opens a table in memory that is lent to it. What the state and the log buffer held before plays no role.
+    pub fn open_in(
+        image: &'a mut [u8],
+        log: &'a mut [u8; LOG_BYTES],
+        state: &'a mut [u64; STATE_WORDS],
+        sheet: &[u8],
+    ) -> Result<Self, Refusal> {
+        Region {
+            state: Held::Lent(state),
+            image: Held::Lent(image),
+            log: Held::Lent(log),
+            sheet: sheet.to_vec(),
+            work: Vec::new(),
+        }
+        .opened()
+    }
+
+    fn opened(mut self) -> Result<Self, Refusal> {
+        self.reopen()?;
+        self.work = vec![0; self.image.len()];
+        Ok(self)
+    }
+
+    /// Opens the table again, under the same sheet: an empty log, as after a cut that keeps nothing.
+    pub fn reopen(&mut self) -> Result<(), Refusal> {
+        done(calls::open(
+            &mut self.state[..],
+            &self.image,
+            &self.log[..],
+            &self.sheet,
+        ))
+    }
+
+    /// The image at the last flush or cut.
+    pub fn image(&self) -> &[u8] {
+        &self.image
+    }
+
+    /// The image at the last flush or cut, for keeps. Outstanding writes are lost, as in a cut that keeps nothing.
+    pub fn into_image(self) -> Vec<u8> {
+        match self.image {
+            Held::Own(own) => own.into_vec(),
+            Held::Lent(lent) => lent.to_vec(),
+        }
+    }
+
+    /// How many writes are outstanding.
+    pub fn outstanding(&self) -> usize {
+        self.state[0] as usize
+    }
+
+    /// The address and length of each outstanding write, oldest first.
+    pub fn records(&self) -> impl Iterator<Item = (u64, u64)> + '_ {
+        self.state[1..]
+            .chunks_exact(2)
+            .take(self.outstanding())
+            .map(|r| (r[0], r[1]))
+    }
+
+    /// What is read at `addr`: the image with all outstanding writes applied. Refused with [`Refusal::OutOfRange`].
+    pub fn read(&mut self, addr: usize, len: usize) -> Result<&[u8], Refusal> {
+        done(calls::read(
+            &self.state[..],
+            &self.image,
+            &self.log[..],
+            &mut self.work,
+            addr as u64,
+            len as u64,
+        ))?;
+        Ok(&self.work[addr..addr + len])
+    }
+
+    /// Records a write that nobody judges. Refused with [`Refusal::OutOfRange`], [`Refusal::TooManyWrites`] or
+    /// [`Refusal::TooManyBytes`].
+    pub fn write(&mut self, addr: usize, data: &[u8]) -> Result<(), Refusal> {
+        done(calls::write(
+            &mut self.state[..],
+            &self.image,
+            &mut self.log[..],
+            addr as u64,
+            data,
+        ))
+    }
+
+    /// What [`Region::gate`] would say. Records nothing.
+    pub fn judge(&mut self, addr: usize, data: &[u8]) -> Verdict<'_> {
+        let mut report = 0;
+        let number = calls::judge(
+            &self.state[..],
+            &self.image,
+            &self.log[..],
+            &self.sheet,
+            &mut self.work,
+            addr as u64,
+            data,
+            &mut report,
+        );
+        self.verdict(number, report)
+    }
+
+    /// Judges a write by every image that a cut could then leave, and records it if it is admitted.
+    pub fn gate(&mut self, addr: usize, data: &[u8]) -> Verdict<'_> {
+        let mut report = 0;
+        let number = calls::gate(
+            &mut self.state[..],
+            &self.image,
+            &mut self.log[..],
+            &self.sheet,
+            &mut self.work,
+            addr as u64,
+            data,
+            &mut report,
+        );
+        self.verdict(number, report)
+    }
+
+    fn verdict(&self, number: u64, report: u64) -> Verdict<'_> {
+        const DENIED: u64 = 8;
+        if number == DENIED {
+            return Verdict::Denied {
+                choice: report,
+                image: &self.work,
+            };
+        }
+        match done(number) {
+            Ok(()) => Verdict::Admitted {
+                points: report,
+                image: &self.work,
+            },
+            Err(why) => Verdict::Refused(why),
+        }
+    }
+
+    /// Makes the read image the image, and empties the log.
+    pub fn flush(&mut self) -> Result<(), Refusal> {
+        done(calls::flush(
+            &mut self.state[..],
+            &mut self.image,
+            &self.log[..],
+        ))
+    }
+
+    /// A power cut: `keep(w, c)` says whether the bytes of outstanding write w (oldest first) in chunk c had reached
+    /// the memory. Answers how many pieces were kept. The table of rows is made here, so it has the right shape.
+    pub fn cut(&mut self, mut keep: impl FnMut(usize, usize) -> bool) -> Result<u64, Refusal> {
+        let (chunks, width) = (chunks(self.image.len()), row_bytes(self.image.len()));
+        let mut rows = vec![0u8; self.outstanding() * width];
+        for write in 0..self.outstanding() {
+            for chunk in 0..chunks {
+                if keep(write, chunk) {
+                    rows[write * width + chunk / 8] |= 0x80 >> (chunk % 8);
+                }
+            }
+        }
+        let mut report = 0;
+        done(calls::cut(
+            &mut self.state[..],
+            &mut self.image,
+            &self.log[..],
+            &rows,
+            &mut report,
+        ))?;
+        Ok(report)
+    }
+
+    /// The same table by a tape of cut choices fixed beforehand, whose epoch starts at byte `start` (0 at first).
+    pub fn by_tape<'r>(&'r mut self, tape: &'r [u8], start: u64) -> ByTape<'r, 'a> {
+        let predicted = self.image.to_vec();
+        ByTape {
+            region: self,
+            tape,
+            start,
+            predicted,
+        }
+    }
+}
+
+/// A table whose every recorded write, flush and cut goes by a tape.
+pub struct ByTape<'r, 'a> {
+    region: &'r mut Region<'a>,
+    tape: &'r [u8],
+    start: u64,
+    predicted: Vec<u8>,
+}
+
+impl<'a> ByTape<'_, 'a> {
+    /// The table.
+    pub fn region(&mut self) -> &mut Region<'a> {
+        self.region
+    }
+
+    /// Where the present epoch starts on the tape.
+    pub fn start(&self) -> u64 {
+        self.start
+    }
+
+    /// The predicted image, as the last call by tape left it; before the first, the image.
+    pub fn predicted(&self) -> &[u8] {
+        &self.predicted
+    }
+
+    /// Records a write that nobody judges, and predicts the image with it. In a session [`Region::judge`] comes
+    /// first. Refused as [`Region::write`] is, and with [`Refusal::BadTape`] or [`Refusal::BadRows`].
+    pub fn write(&mut self, addr: usize, data: &[u8]) -> Result<&[u8], Refusal> {
+        done(calls::tape_write(
+            &mut self.region.state[..],
+            &self.region.image,
+            &mut self.region.log[..],
+            self.tape,
+            self.start,
+            &mut self.predicted,
+            addr as u64,
+            data,
+        ))?;
+        Ok(&self.predicted)
+    }
+
+    /// A flush where the tape foretells one. Refused with [`Refusal::BadTape`], [`Refusal::BadRows`] or
+    /// [`Refusal::NotPredicted`].
+    pub fn flush(&mut self) -> Result<(), Refusal> {
+        done(calls::tape_flush(
+            &mut self.region.state[..],
+            &mut self.region.image,
+            &self.region.log[..],
+            self.tape,
+            &mut self.start,
+            &mut self.predicted,
+        ))
+    }
+
+    /// A cut where the tape foretells one: what it keeps stands on the tape. Answers how many pieces were kept.
+    pub fn cut(&mut self) -> Result<u64, Refusal> {
+        let mut report = 0;
+        done(calls::tape_cut(
+            &mut self.region.state[..],
+            &mut self.region.image,
+            &self.region.log[..],
+            self.tape,
+            &mut self.start,
+            &mut self.predicted,
+            &mut report,
+        ))?;
+        Ok(report)
+    }
+}
