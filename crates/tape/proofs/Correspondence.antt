@@ -19,13 +19,13 @@ use Rattle.cuts.proofs.Shape.{crash-rows-shaped}
 use Rattle.writelog.specs.State.{view, sound}
 use Rattle.writelog.specs.declared.state.State.{State}
 use Rattle.writelog.proofs.Soundness.{sound-facts}
+use Rattle.writelog.proofs.Views.{writes-counted}
 use Rattle.tape.specs.Epoch.{flush-foretold, epoch-rows, epoch-number}
 use Rattle.tape.specs.Foretold.{foretold, predicted-image}
 use Rattle.tape.specs.Ending.{predicted-now}
 use Rattle.tape.specs.Cut.{tape-cut-number}
 use Rattle.tape.specs.Future.{Foreseen, TellsEpoch, epoch-bytes}
 use Rattle.tape.proofs.Futures.{bytes-of-epoch, epoch-tells}
-use Rattle.tape.proofs.Recorded.{writes-counted}
 use Rattle.tape.proofs.NumberLaws.{tape-sound-there, ending-foretold}
 use Rattle.tape.proofs.Foretells.{foretold-cut-is-a-crash}
 
