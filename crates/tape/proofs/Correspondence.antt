@@ -1,12 +1,14 @@
 -- The correspondence that pmem_async_equiv_t.rs sketches: for every log and every crash of it there is a tape that foretells just that crash, and the predicted image is the
 -- original's durable state for the resolved prophecies. The other way round a tape's cut is a crash. Assumes nothing.
-use Prim.Native.Nat.{ℕ}
+use Prim.Native.Nat.{ℕ, _≤_}
+use native.Mathlib.Omega.{arith}
 use mathlib.Core.Path.{_≡_, refl, sym, ap, subst, subst⁻¹, _∙_}
 use mathlib.Core.Logic.{_↔_}
-use mathlib.Core.Bool.{Bool, false}
+use mathlib.Core.Bool.{Bool, true, false, Bool·beq}
 use mathlib.Core.List.{List, [], _++_}
 use lib.Dec.{lit<}
 use lib.ListN.{length}
+use Rattle.region.specs.Limits.{writes-limit, const-persistence-chunk-size}
 use Rattle.replay.specs.AsyncSpec.{AsyncView, can-crash-as, can-crash}
 use Rattle.cuts.specs.Bits.{chunks}
 use Rattle.cuts.specs.Packed.{are-bytes}
@@ -14,10 +16,17 @@ use Rattle.cuts.specs.Prophecy.{prophecy}
 use Rattle.cuts.specs.Shape.{has-shape}
 use Rattle.cuts.proofs.Packed.{bytes-of-append}
 use Rattle.cuts.proofs.Shape.{crash-rows-shaped}
+use Rattle.writelog.specs.State.{view, sound}
+use Rattle.writelog.specs.declared.state.State.{State}
+use Rattle.writelog.proofs.Soundness.{sound-facts}
+use Rattle.writelog.proofs.Views.{writes-counted}
 use Rattle.tape.specs.Epoch.{flush-foretold, epoch-rows, epoch-number}
 use Rattle.tape.specs.Foretold.{foretold, predicted-image}
+use Rattle.tape.specs.Ending.{predicted-now}
+use Rattle.tape.specs.Cut.{tape-cut-number}
 use Rattle.tape.specs.Future.{Foreseen, TellsEpoch, epoch-bytes}
 use Rattle.tape.proofs.Futures.{bytes-of-epoch, epoch-tells}
+use Rattle.tape.proofs.NumberLaws.{tape-sound-there, ending-foretold}
 use Rattle.tape.proofs.Foretells.{foretold-cut-is-a-crash}
 
 -- a tape whose epoch at `start` is right for the log and resolves the original's prophecies so
@@ -72,3 +81,20 @@ module _ (C : ℕ) (v : AsyncView) where
 
       from : ((tape : List ℕ) × are-bytes tape × (epoch-number K n tape 0 ≡ 0) × (flush-foretold tape 0 ≡ false) × (x ≡ predicted-image C tape 0 v)) → can-crash C v x
       from (tape, b, r, f, e) = (epoch-rows K n tape 0, subst⁻¹ (λ y. can-crash-as C v y (epoch-rows K n tape 0)) e (foretold-cut-is-a-crash C tape 0 v f))
+
+-- and at the call: every crash of a sound log is done by the tape cut of some tape, whose promise then leaves it as the image
+pub every-crash-is-a-tape-cut : (image : List ℕ) (st : State) (log predicted : List ℕ) → length (st .records) ≡ writes-limit → sound (length image) st (length log) ≡ true → length predicted ≡ length image
+    → (x : List ℕ) (rows : List (List Bool)) → can-crash-as const-persistence-chunk-size (view image st log) x rows
+    → (tape : List ℕ) × are-bytes tape × (tape-cut-number image st log tape 0 predicted ≡ 0) × (predicted-now image st log tape 0 ≡ x)
+every-crash-is-a-tape-cut image st log predicted sized good same x rows h =
+    let v = view image st log in
+    let found = every-crash-has-a-tape const-persistence-chunk-size v x rows h in
+    let tape = found .0 in
+    let few : st .count ≤ length (st .records) = omega (arith, sized, sound-facts (length image) st (length log) good .few) in
+    let epoch : epoch-number (chunks const-persistence-chunk-size v) (st .count) tape 0 ≡ 0
+    = subst (λ k. epoch-number (chunks const-persistence-chunk-size v) k tape 0 ≡ 0) (writes-counted image st log few) (found .2 .right) in (
+      tape,
+      found .1,
+      ending-foretold (length image) st (length log) (length predicted) false tape 0 (tape-sound-there (length image) st (length log) (length predicted) good same) epoch (ap (λ b. Bool·beq b false) (found .2 .header-tells)),
+      sym (found .3),
+    )

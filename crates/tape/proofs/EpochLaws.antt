@@ -86,6 +86,10 @@ module _ (tape : List ℕ) (start : ℕ) where
     pub other-header : (header tape start ≡ flush-header → ⊥) → (header tape start ≡ cut-header → ⊥) → header-right tape start ≡ false
     other-header f c = first-test ∙ ap (λ (b : Bool). b || eqb (header tape start) cut-header) (ne-eqb (header tape start) flush-header f) ∙ ne-eqb (header tape start) cut-header c
 
+-- "header missing": 10 for every start at or past the end
+pub nothing-past-the-end : (K n : ℕ) (tape : List ℕ) (start : ℕ) → length tape ≤ start → epoch-number K n tape start ≡ 10
+nothing-past-the-end K n tape start h = no-epoch K n tape start (no-header K n tape start (past-the-end tape start h))
+
 -- the bytes of the rows fit behind the header, without a sum of the start
 pub fits-behind : (m start n : ℕ) → start < n → ltb m (n - start) ≡ leb (start + 1 + m) n
 fits-behind m start n h =
