@@ -91,6 +91,12 @@ pub record Gated (image log : List ℕ) (addr v : ℕ) (us : List ℕ) (answer :
   pub log-after : log′ ≡ set log (length us) v
   pub work-after : work′ ≡ set image addr v
 
+-- a write that fits, of which a cut could leave only images that obey: the gate admits exactly these
+abbrev pub Admissible : (image : List ℕ) (st : State) (log sheet work : List ℕ) (addr : ℕ) (bytes : List ℕ) → Type 0
+Admissible image st log sheet work addr bytes =
+    Fits image st log sheet work addr bytes
+    × ((x : List ℕ) → can-crash const-persistence-chunk-size (write (view image st log) addr bytes) x → obeys sheet x x ≡ true)
+
 -- the gate admits one value more
 module _ (image : List ℕ) (st : State) (log sheet work : List ℕ) (addr a b v : ℕ) (us : List ℕ)
     (l : Logged image st log addr us) (same : length work ≡ length image) (good : valid addr a b image ≡ true)
@@ -126,10 +132,13 @@ module _ (image : List ℕ) (st : State) (log sheet work : List ℕ) (addr a b v
         few-points = points-few;
       }
 
+  pub admissible : Admissible image st log sheet work addr (v ∷ [])
+  admissible = (fits, all-obey)
+
   pub gate-goes : {answer : Verdict} {st′ : State} {log′ work′ : List ℕ} → Gates image st log sheet work addr (v ∷ []) answer st′ log′ work′
       → Gated image log addr v us answer st′ log′ work′
   gate-goes {answer} {st′} {log′} {work′} g =
-      let admits = gate-means image st log sheet work addr (v ∷ []) g .admits .1 (fits, all-obey) in
+      let admits = gate-means image st log sheet work addr (v ∷ []) g .admits .1 admissible in
       let held = gated-holds image st log sheet work addr (v ∷ []) g (l .sized) (admits .1) in
       let none = admitted-number image st log sheet work addr (v ∷ []) (gate-judges image st log sheet work addr (v ∷ []) g) (admits .1) in
       let new : Record = record { addr = addr; len = 1 } in
@@ -176,11 +185,21 @@ module _ (image : List ℕ) (st : State) (log sheet work : List ℕ) (addr a b :
   here : addr < length image
   here = valid-lies addr a b image (u .good)
 
+  pub once-admissible : Admissible image st log sheet work addr (a ∷ [])
+  unfolding all-of
+  once-admissible = admissible image st log sheet work addr a b a [] (logged-none u) (u .same) (u .good) (u .says) (both-true (first-value a b) refl) (omega arith)
+
   pub once : {answer : Verdict} {st′ : State} {log′ work′ : List ℕ} → Gates image st log sheet work addr (a ∷ []) answer st′ log′ work′ → Gated image log addr a [] answer st′ log′ work′
   unfolding all-of
   once g = gate-goes image st log sheet work addr a b a [] (logged-none u) (u .same) (u .good) (u .says) (both-true (first-value a b) refl) (omega arith) g
 
   module _ {first : Verdict} {st₁ : State} {log₁ work₁ : List ℕ} (g₁ : Gated image log addr a [] first st₁ log₁ work₁) where
+    pub twice-admissible : Admissible image st₁ log₁ sheet work₁ addr (b ∷ [])
+    unfolding all-of
+    twice-admissible =
+        admissible image st₁ log₁ sheet work₁ addr a b b (a ∷ []) (g₁ .logged) (ap length (g₁ .work-after) ∙ length-set image addr a) (u .good) (u .says)
+        (both-true (first-value a b) (both-true (second-value a b) refl)) (omega arith)
+
     pub twice : {answer : Verdict} {st′ : State} {log′ work′ : List ℕ} → Gates image st₁ log₁ sheet work₁ addr (b ∷ []) answer st′ log′ work′ → Gated image log₁ addr b (a ∷ []) answer st′ log′ work′
     unfolding all-of
     twice g =

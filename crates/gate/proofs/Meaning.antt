@@ -11,7 +11,8 @@ use Rattle.region.specs.Limits.{const-persistence-chunk-size}
 use Rattle.region.specs.Answer.{Report}
 use Rattle.region.specs.declared.Refusal.{Refusal}
 use Rattle.region.specs.declared.Answer.the-variants as answers
-use Rattle.region.proofs.AnswerLaws.{answers-by-number}
+use Rattle.region.specs.Pmemspec.{update-bytes}
+use Rattle.region.proofs.AnswerLaws.{answers-by-number, done-changed}
 use Rattle.replay.specs.AsyncSpec.{AsyncView, write, readable, can-crash}
 use Rattle.verdict.specs.Search as search
 use Rattle.verdict.specs.Covering.{Rule, after-alone}
@@ -19,7 +20,7 @@ use Rattle.verdict.specs.Gate.{gate-verdict, judges-images}
 use Rattle.verdict.proofs.Gate.{gate-judges-images}
 use Rattle.sheet.specs.Sheet.{obeys}
 use Rattle.sheet.proofs.Laws.{before-unseen}
-use Rattle.writelog.specs.State.{view}
+use Rattle.writelog.specs.State.{log-records, together, view, appended}
 use Rattle.writelog.specs.declared.state.State.{State}
 use Rattle.engine.specs.Search.{sheet-verdict, sheet-image}
 use Rattle.gate.specs.declared.Verdict.{Verdict}
@@ -113,3 +114,17 @@ module _ (image : List ℕ) (st : State) (log sheet work : List ℕ) (addr : ℕ
 
   pub gate-means : {answer : Verdict} {st′ : State} {log′ work′ : List ℕ} → Gates image st log sheet work addr bytes answer st′ log′ work′ → Means image st log sheet work addr bytes answer work′
   gate-means g = judge-means (gate-judges g)
+
+  -- The promise can be kept: a write that fits, and of which a cut could leave only images that obey, has the outcome that admits it.
+  pub admitting : Fits image st log sheet work addr bytes → ((x : List ℕ) → could-leave v addr bytes x → obeys sheet x x ≡ true)
+      → Gates image st log sheet work addr bytes (Admitted (gate-points image st log addr bytes)) (appended st addr (length bytes)) (update-bytes log (together (log-records st)) bytes) (readable (write v addr bytes))
+  admitting f all =
+      let admits : J image st log sheet work addr bytes ≡ tried search.admit = fitting-tried image st log sheet work addr bytes f ∙ ap tried (judged .admits .1 all) in
+      let report = ap (judgement-report (gate-points image st log addr bytes)) admits in
+      let none = ap (λ (r : Report). r .number) report in
+      record {
+        answers = sym report;
+        state-after = done-changed (appended st addr (length bytes)) st none;
+        log-after = done-changed (update-bytes log (together (log-records st)) bytes) log none;
+        work-after = sym (ap (λ (j : Judgement). judgement-work v addr bytes j work) admits);
+      }

@@ -1,0 +1,109 @@
+-- `inv`, which every method of the original requires and ensures: a state that passes the tests of number 1 passes them again after every call, whatever
+-- its answer. One law for each promise, from that promise alone. Assumes nothing.
+use Prim.Native.Nat.{ℕ, zero, suc}
+use native.Mathlib.Omega.{arith}
+use mathlib.Core.Path.{_≡_, refl, sym, ap, subst⁻¹, _∙_}
+use mathlib.Core.Bool.{true, false}
+use mathlib.Core.List.{List}
+use lib.ListN.{length}
+use Rattle.region.specs.Limits.{const-persistence-chunk-size, writes-limit}
+use Rattle.region.specs.Answer.{if-done}
+use Rattle.region.specs.Pmemspec.{update-bytes}
+use Rattle.region.specs.declared.Answer.{Answer}
+use Rattle.region.specs.declared.Answer.the-variants.{Done}
+use Rattle.cuts.proofs.Lengths.{length-flush, length-flush-selective}
+use Rattle.writelog.specs.State.{log-records, together, view, sound, appended, emptied}
+use Rattle.writelog.specs.Write.{write-number, Writes}
+use Rattle.writelog.specs.Flush.{flush-number, Flushes}
+use Rattle.writelog.specs.Cut.{table-rows, cut-number, Cuts}
+use Rattle.writelog.specs.declared.state.State.{State}
+use Rattle.writelog.specs.declared.cut.CutAnswer.{CutAnswer}
+use Rattle.writelog.proofs.Soundness.{Sound, sound-facts, facts-sound}
+use Rattle.writelog.proofs.WriteLaws.{Room, room-done, write-sound}
+use Rattle.writelog.proofs.Views.{sized-of-appended, sound-after-recorded, sound-after-emptied}
+use Rattle.gate.specs.Opening.{Opens}
+use Rattle.gate.specs.Judgement.{judge-number, Gates}
+use Rattle.gate.specs.declared.Verdict.{Verdict}
+use Rattle.gate.proofs.JudgementLaws.{number-0-fits}
+use Rattle.gate.proofs.Gives.{opened-holds}
+use Rattle.tape.specs.Write.{tape-write-number, TapeWrites}
+use Rattle.tape.specs.Flush.{tape-flush-number, TapeFlushes}
+use Rattle.tape.specs.Cut.{tape-cut-number, TapeCuts}
+use Rattle.tape.proofs.NumberLaws.{tape-write-done, ending-done}
+use Rattle.tape.proofs.PredictLaws.{predicted-cut}
+
+-- refusal 1 doesn't apply, and the state has its 32 records
+pub record Accepted (image : List ℕ) (st : State) (log : List ℕ) : Type 0 where
+  pub sized : length (st .records) ≡ writes-limit
+  pub good : sound (length image) st (length log) ≡ true
+
+-- what is true of two things as a done call leaves them, and of both as they were, is true of both after the call
+either-way : {A B : Type 0} (P : A → B → Type 0) (n : ℕ) {x after before : A} {y after′ before′ : B} → x ≡ if-done n after before → y ≡ if-done n after′ before′
+    → (n ≡ 0 → P after after′) → P before before′ → P x y
+either-way P zero e f done left = rw (e, f) (done refl)
+either-way P (suc n) e f done left = rw (e, f) left
+
+module _ (image : List ℕ) (st : State) (log : List ℕ) (a : Accepted image st log) where
+  facts : Sound (length image) st (length log)
+  facts = sound-facts (length image) st (length log) (a .good)
+
+  -- a write that there is room for, recorded
+  recorded : (addr : ℕ) (bytes : List ℕ) → Room (length image) st addr (length bytes) → Accepted image (appended st addr (length bytes)) (update-bytes log (together (log-records st)) bytes)
+  recorded addr bytes r =
+      record {
+        sized = sized-of-appended st addr (length bytes) (a .sized) (r .few);
+        good = facts-sound _ _ _ (sound-after-recorded image st log addr bytes (a .sized) facts r);
+      }
+
+  -- an image of the same length, with an empty log
+  settled : (image′ : List ℕ) → length image′ ≡ length image → Accepted image′ (emptied st) log
+  settled image′ same =
+      record {
+        sized = a .sized;
+        good = facts-sound _ _ _ (subst⁻¹ (λ (L : ℕ). Sound L (emptied st) (length log)) same (sound-after-emptied st (length image) (length log) (facts .short) (facts .buffer)));
+      }
+
+  pub accepted-after-write : {addr : ℕ} {bytes : List ℕ} {answer : Answer} {st′ : State} {log′ : List ℕ} → Writes image st log addr bytes answer st′ log′ → Accepted image st′ log′
+  accepted-after-write {addr} {bytes} p =
+      either-way (Accepted image) (write-number image st log addr (length bytes)) (p .state-after) (p .log-after)
+      (λ none. recorded addr bytes (room-done _ _ _ _ (sym (write-sound image st log addr (length bytes) (a .good)) ∙ none))) a
+
+  pub accepted-after-flush : {answer : Answer} {st′ : State} {image′ : List ℕ} → Flushes image st log answer st′ image′ → Accepted image′ st′ log
+  accepted-after-flush p =
+      either-way (λ s x. Accepted x s log) (flush-number image st log) (p .state-after) (p .image-after) (λ none. settled _ (length-flush (view image st log))) a
+
+  pub accepted-after-cut : {table : List ℕ} {answer : CutAnswer} {st′ : State} {image′ : List ℕ} → Cuts image st log table answer st′ image′ → Accepted image′ st′ log
+  accepted-after-cut {table} p =
+      either-way (λ s x. Accepted x s log) (cut-number image st log table) (p .state-after) (p .image-after)
+      (λ none. settled _ (length-flush-selective const-persistence-chunk-size (view image st log) (table-rows image st table))) a
+
+  pub accepted-after-gate : {sheet work : List ℕ} {addr : ℕ} {bytes : List ℕ} {answer : Verdict} {st′ : State} {log′ work′ : List ℕ} → Gates image st log sheet work addr bytes answer st′ log′ work′
+      → Accepted image st′ log′
+  accepted-after-gate {sheet} {work} {addr} {bytes} p =
+      either-way (Accepted image) (judge-number image st log sheet work addr bytes) (p .state-after) (p .log-after)
+      (λ none. let f = number-0-fits image st log sheet work addr bytes none .0 in recorded addr bytes (record { lies = f .lies; few = f .few-writes; fits = f .few-bytes })) a
+
+  pub accepted-after-tape-write : {tape : List ℕ} {start : ℕ} {predicted : List ℕ} {addr : ℕ} {bytes : List ℕ} {answer : Answer} {st′ : State} {log′ predicted′ : List ℕ}
+      → TapeWrites image st log tape start predicted addr bytes answer st′ log′ predicted′ → Accepted image st′ log′
+  accepted-after-tape-write {tape} {start} {predicted} {addr} {bytes} p =
+      either-way (Accepted image) (tape-write-number image st log tape start predicted addr (length bytes)) (p .state-after) (p .log-after)
+      (λ none. recorded addr bytes (tape-write-done image st log tape start predicted addr (length bytes) none .room .room)) a
+
+  pub accepted-after-tape-flush : {tape : List ℕ} {start : ℕ} {predicted : List ℕ} {answer : Answer} {st′ : State} {start′ : ℕ} {image′ predicted′ : List ℕ}
+      → TapeFlushes image st log tape start predicted answer st′ start′ image′ predicted′ → Accepted image′ st′ log
+  accepted-after-tape-flush {tape} {start} {predicted} p =
+      either-way (λ s x. Accepted x s log) (tape-flush-number image st log tape start predicted) (p .state-after) (p .image-after) (λ none. settled _ (length-flush (view image st log))) a
+
+  pub accepted-after-tape-cut : {tape : List ℕ} {start : ℕ} {predicted : List ℕ} {answer : CutAnswer} {st′ : State} {start′ : ℕ} {image′ predicted′ : List ℕ}
+      → TapeCuts image st log tape start predicted answer st′ start′ image′ predicted′ → Accepted image′ st′ log
+  accepted-after-tape-cut {tape} {start} {predicted} p =
+      either-way (λ s x. Accepted x s log) (tape-cut-number image st log tape start predicted) (p .state-after) (p .image-after)
+      (λ none. let ending = ending-done (length image) st (length log) (length predicted) false tape start none in
+      settled _ (ap length (predicted-cut const-persistence-chunk-size tape start (view image st log) (ending .foretold))
+      ∙ length-flush-selective const-persistence-chunk-size (view image st log) _)) a
+
+-- a good opening makes one of any state
+pub accepted-after-opening : (image : List ℕ) (st : State) (log sheet : List ℕ) {st′ : State} → Opens image st log sheet Done st′ → Accepted image st′ log
+accepted-after-opening image st log sheet p =
+    let held = opened-holds image st log sheet p refl in
+    record { sized = held .sized; good = facts-sound _ _ _ (held .facts) }
