@@ -1,7 +1,6 @@
 -- `inv`, which every method of the original requires and ensures: a state that passes the tests of number 1 passes them again after every call, whatever
 -- its answer. One law for each promise, from that promise alone. Assumes nothing.
 use Prim.Native.Nat.{ℕ, zero, suc}
-use native.Mathlib.Omega.{arith}
 use mathlib.Core.Path.{_≡_, refl, sym, ap, subst⁻¹, _∙_}
 use mathlib.Core.Bool.{true, false}
 use mathlib.Core.List.{List}

@@ -2,11 +2,11 @@
 use Prim.Native.Nat.{ℕ, zero, suc, _+_, _≤_, _<_}
 use native.Mathlib.Nat.{le-of-suc-le-suc, not-suc-le-zero, min-le-left}
 use native.Mathlib.Omega.{arith}
-use mathlib.Core.Path.{_≡_, refl, sym, ap, subst, subst⁻¹, _∙_}
+use mathlib.Core.Path.{_≡_, sym, ap, subst, subst⁻¹, _∙_}
 use mathlib.Core.Bool.{Bool, true}
 use mathlib.Core.List.{List, [], _∷_}
 use lib.Dec.{leb}
-use lib.ListN.{length, getD, take, drop, length-take}
+use lib.ListN.{length, getD, drop, length-take}
 use borrow.Author.Tests.{leb-true}
 use Rattle.region.specs.Limits.{const-persistence-chunk-size, writes-limit}
 use Rattle.region.specs.Pmemspec.{extract-bytes}
@@ -24,11 +24,11 @@ use Rattle.cuts.proofs.Prophecy.{prophecy-of-nothing}
 use Rattle.cuts.proofs.Shape.{shaped-rows-crash}
 use Rattle.cuts.proofs.Tables.{rows-at-shape}
 use Rattle.writelog.specs.State.{log-records, writes-of, view, records-inside, sound}
-use Rattle.writelog.specs.Cut.{cut-report, chunks, table-rows, cut-number, cut-image, Cuts}
+use Rattle.writelog.specs.Cut.{chunks, table-rows, cut-number, cut-image, Cuts}
 use Rattle.writelog.specs.declared.state.Record.{Record}
 use Rattle.writelog.specs.declared.state.State.{State}
 use Rattle.writelog.specs.declared.cut.CutAnswer.the-variants.{Kept}
-use Rattle.writelog.proofs.Soundness.{Sound, sound-facts}
+use Rattle.writelog.proofs.Soundness.{sound-facts}
 use Rattle.writelog.proofs.WriteLaws.{passed}
 use Rattle.writelog.proofs.Views.{writes-counted}
 

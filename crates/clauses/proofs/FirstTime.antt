@@ -5,7 +5,7 @@ use Prim.Native.Nat.{ℕ, zero, suc, _+_, _^_, _<_}
 use native.Mathlib.Nat.{suc-ne-zero}
 use native.Mathlib.Numerals.{add-one}
 use native.Mathlib.Omega.{arith}
-use mathlib.Core.Path.{_≡_, refl, sym, ap, ap₂, subst, subst⁻¹, _∙_}
+use mathlib.Core.Path.{_≡_, refl, sym, ap₂, subst, subst⁻¹, _∙_}
 use mathlib.Core.Bool.{Bool, true, false, _&&_}
 use mathlib.Core.List.{List, [], _∷_}
 use lib.Dec.{leb, eqb}
@@ -14,8 +14,7 @@ use Rattle.region.specs.Limits.{image-limit, log-limit}
 use Rattle.region.specs.Answer.{unless}
 use Rattle.region.specs.declared.Answer.the-variants as answer
 use Rattle.region.proofs.AnswerLaws.{done-changed}
-use Rattle.sheet.specs.Sheet.{address-bits, byte-bits, obeys}
-use Rattle.writelog.specs.State.{emptied}
+use Rattle.sheet.specs.Sheet.{byte-bits, obeys}
 use Rattle.writelog.specs.declared.state.State.{State}
 use Rattle.writelog.proofs.Soundness.{facts-sound}
 use Rattle.writelog.proofs.FlushLaws.{flushes-done}
@@ -23,13 +22,13 @@ use Rattle.gate.specs.Opening.{fresh, Opens}
 use Rattle.gate.proofs.Meaning.{admitting}
 use Rattle.example.specs.Valid.{valid, app-sheet}
 use Rattle.example.specs.Run.{run-number, rounds-limit, if-any-round, last-writes, Runs}
-use Rattle.example.specs.Steps.{fits-number, Under, Goes, Repeats}
+use Rattle.example.specs.Steps.{Under, Goes, Repeats}
 use Rattle.example.specs.declared.RunAnswer.the-variants.{Done}
 use Rattle.example.proofs.NumberLaws.{Fit, number-0-fits, opening-decides}
 use Rattle.example.proofs.SheetLaws.{app-sheet-formed, sheet-says-valid}
 use Rattle.example.proofs.StepLaws.{once-admissible, once, twice-admissible, twice, pair-goes, first-value, second-value, under-after, under-turned, goes-on, repeats-none, repeats-more}
 use Rattle.session.specs.History.{History, opening, _then_, written, flushed}
-use Rattle.session.specs.Run.{Desk, desk, Run, opened, _and_, gate, flush, throughout}
+use Rattle.session.specs.Run.{desk, Run, opened, _and_, gate, flush, throughout}
 use Rattle.session.specs.Theorem.{Session}
 use Rattle.session.proofs.Theorem.{session-throughout}
 

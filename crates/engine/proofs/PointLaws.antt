@@ -3,7 +3,7 @@ use Prim.Native.Nat.{ℕ, _+_, _-_, _≤_, _<_}
 use native.Mathlib.Nat.{add-sub-cancel-left, sub-self, le-refl}
 use native.Mathlib.Omega.{arith}
 use mathlib.Core.Path.{_≡_, refl, ap, ap₂, _∙_}
-use mathlib.Core.Bool.{Bool, true}
+use mathlib.Core.Bool.{true}
 use mathlib.Core.List.{List, [], _∷_}
 use lib.ListN.{length, take, drop, length-drop}
 use lib.Seq.{length-take-le}
@@ -22,7 +22,7 @@ use Rattle.writelog.specs.declared.state.State.{State}
 use Rattle.writelog.proofs.Records.{next-and-rest}
 use Rattle.writelog.proofs.Walk.{oldest}
 use Rattle.writelog.proofs.KeptLaws.{touched-le}
-use Rattle.writelog.proofs.Soundness.{Sound, sound-facts}
+use Rattle.writelog.proofs.Soundness.{sound-facts}
 use Rattle.engine.specs.Count.{record-points}
 
 pub points-by-records : (C : ℕ) (rs : List Record) (log : List ℕ) → together rs ≤ length log → points C (writes-of rs log) ≡ record-points C rs

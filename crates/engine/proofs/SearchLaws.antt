@@ -4,17 +4,17 @@ use Prim.Native.Nat.{ℕ, suc, _+_, _-_, _*_, _%_, _^_, _≤_, _<_}
 use native.Mathlib.Nat.{one-mul, sub-zero}
 use native.Mathlib.Numerals.{add-one}
 use native.Mathlib.Omega.{arith}
-use mathlib.Core.Path.{_≡_, refl, sym, ap, ap₂, _∙_}
+use mathlib.Core.Path.{_≡_, sym, ap, _∙_}
 use mathlib.Core.Bool.{Bool, true, false}
-use mathlib.Core.List.{List, [], _∷_, _++_}
+use mathlib.Core.List.{List}
 use lib.Dec.{lit<}
 use lib.ListN.{length}
 use lib.Pow.{shl-exact}
 use Rattle.region.specs.Limits.{points-limit, const-persistence-chunk-size}
 use Rattle.replay.specs.AsyncSpec.{AsyncView, write}
 use Rattle.cuts.specs.Number.{choice-image, choice-points}
-use Rattle.verdict.specs.Search.{Verdict, admit, deny, verdict-from}
-use Rattle.verdict.specs.Gate.{gate-test, gate-image}
+use Rattle.verdict.specs.Search.{admit, deny, verdict-from}
+use Rattle.verdict.specs.Gate.{gate-test}
 use Rattle.verdict.proofs.Search.{verdict-at-start, verdict-goes-on, verdict-stops, verdict-at-end}
 use Rattle.verdict.proofs.Gate.{last-trial-is-the-read-image}
 use Rattle.sheet.specs.Sheet.{obeys}

@@ -1,19 +1,19 @@
 -- A trial's three steps leave the image of its choice number: the image, the log over it by the number's lowest points, and the new write by those
 -- above. Assumes nothing.
-use Prim.Native.Nat.{ℕ, _+_, _-_, _/_, _^_, _≤_, _<_}
+use Prim.Native.Nat.{ℕ, _-_, _/_, _^_, _<_}
 use native.Mathlib.Nat.{add-sub-cancel}
 use native.Mathlib.Omega.{arith}
 use mathlib.Core.Path.{_≡_, sym, ap, ap₂, _∙_}
 use mathlib.Core.List.{List}
 use lib.Dec.{lit<}
 use lib.ListN.{length}
-use Rattle.region.specs.Limits.{image-limit, const-persistence-chunk-size}
+use Rattle.region.specs.Limits.{const-persistence-chunk-size}
 use Rattle.replay.specs.AsyncSpec.{Write, size-to-chunks, apply-write-selective, flush-writes-selective, write}
 use Rattle.replay.specs.Choice.{touched, row-of, rows-of}
 use Rattle.cuts.specs.Bits.{new-write}
 use Rattle.cuts.specs.Number.{choice-image, choice-points}
 use Rattle.cuts.proofs.Pairs.{choice-of-a-write}
-use Rattle.writelog.specs.State.{log-records, together, view}
+use Rattle.writelog.specs.State.{log-records, view}
 use Rattle.writelog.specs.Log.{last-writes, Remaining}
 use Rattle.writelog.specs.declared.state.State.{State}
 use Rattle.writelog.proofs.Soundness.{Sound, sound-facts}

@@ -11,7 +11,7 @@ use Rattle.replay.specs.AsyncSpec.{AsyncView}
 use Rattle.verdict.specs.Search.{Verdict, admit, deny}
 use Rattle.verdict.specs.Gate.{gate-verdict, gate-image}
 use Rattle.sheet.specs.Sheet.{obeys}
-use Rattle.writelog.specs.State.{log-records, sound, view}
+use Rattle.writelog.specs.State.{log-records, sound}
 use Rattle.writelog.specs.declared.state.State.{State}
 use Rattle.engine.specs.Count.{record-points}
 use Rattle.engine.specs.declared.search.Outcome.{Outcome}

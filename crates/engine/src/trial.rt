@@ -11,7 +11,7 @@ ghost use Rattle.region.specs.Limits.{const-persistence-chunk-size, points-limi
 ghost use Rattle.replay.specs.AsyncSpec.{size-to-chunks, flush-writes-selective, write};
 ghost use Rattle.replay.specs.Choice.{touched, rows-of};
 ghost use Rattle.cuts.specs.Number.{choice-image};
-ghost use Rattle.writelog.specs.State.{log-records, view};
+ghost use Rattle.writelog.specs.State.{view};
 ghost use Rattle.writelog.specs.Log.{last-records, last-writes, Remaining};
 ghost use Rattle.engine.specs.Count.{record-points};
 ghost use Rattle.engine.specs.Search.{Ready};

@@ -1,6 +1,6 @@
 -- A log of one-byte writes at one address. Laid or lost, each leaves the image with some value at that address and nothing else changed; so where the
 -- image and the writes have one of two values there, every image that a cut could leave has too. Assumes nothing.
-use Prim.Native.Nat.{ℕ, zero, suc, _+_, _-_, _/_, _≤_, _<_}
+use Prim.Native.Nat.{ℕ, _+_, _-_, _/_, _<_}
 use native.Mathlib.Nat.{add-zero}
 use native.Mathlib.Omega.{arith}
 use mathlib.Core.Path.{_≡_, refl, sym, ap, ap₂, subst⁻¹, _∙_}
@@ -9,10 +9,10 @@ use mathlib.Core.List.{List, [], _∷_, _++_}
 use lib.Dec.{ltb}
 use lib.ListN.{length, getD, drop, set, length-set}
 use lib.Seq.{getD-set-same, set-getD, set-set}
-use borrow.Author.Tests.{lt-ltb, ltb-true}
+use borrow.Author.Tests.{lt-ltb}
 use Rattle.region.specs.Pmemspec.{update-bytes}
 use Rattle.region.proofs.Booleans.{both, both-true}
-use Rattle.replay.specs.AsyncSpec.{Write, AsyncView, apply-write, apply-write-selective, flush-writes, flush-writes-selective, readable, can-crash}
+use Rattle.replay.specs.AsyncSpec.{Write, AsyncView, apply-write-selective, flush-writes, flush-writes-selective, readable, can-crash}
 use Rattle.replay.specs.Choice.{touched, points}
 use Rattle.replay.proofs.Laid.{lay, update-is-lay, lay-none, lay-kept, lay-lost}
 use Rattle.cuts.specs.Bits.{new-write}

@@ -1,6 +1,5 @@
 -- The promises leave no choice: any two outcomes that one allows are identical. Assumes nothing.
 use Prim.Native.Nat.{ℕ}
-use native.Mathlib.Nat.{suc-ne-zero}
 use native.Mathlib.Omega.{arith}
 use mathlib.Core.Path.{_≡_, refl, sym, ap, _∙_}
 use mathlib.Core.List.{List}

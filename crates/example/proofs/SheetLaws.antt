@@ -3,18 +3,18 @@
 use Prim.Native.Nat.{ℕ, zero, suc, _+_, _-_, _*_, _/_, _%_, _^_, _≤_, _<_}
 use native.Mathlib.Decide.{decLt}
 use native.Mathlib.Omega.{arith}
-use mathlib.Core.Path.{_≡_, refl, sym, ap, ap₂, _∙_}
+use mathlib.Core.Path.{_≡_, refl, ap, _∙_}
 use mathlib.Core.Bool.{Bool, true, false, _&&_, _||_, and-false}
 use mathlib.Core.List.{List, [], _∷_}
 use mathlib.Core.Option.{some}
 use lib.Dec.{leb, ltb, eqb}
 use lib.ListN.{length, getD}
 use borrow.Author.Tests.{le-leb, lt-leb, eq-eqb, ne-eqb}
-use Rattle.sheet.specs.Sheet.{Found, got, address-bits, byte-bits, bit-count, field, read-field, clause, range, Rule, Rules, nil, cons, clause-holds, empty-holds, join, holds, any, group}
+use Rattle.sheet.specs.Sheet.{got, address-bits, byte-bits, bit-count, field, read-field, clause, range, clause-holds, empty-holds, join, holds}
 use Rattle.sheet.specs.Sheet.{read-tagged, read-entry, read-members, read-rest, read-rule, read-edition, filling, read-filling, read-whole, read-sheet, well-formed, obeys}
 use Rattle.sheet.proofs.Window.{word, word-field}
 use Rattle.sheet.proofs.Reading.{field-there, entry-range}
-use Rattle.example.specs.Valid.{one-of, valid, app-rule, app-sheet}
+use Rattle.example.specs.Valid.{valid, app-rule, app-sheet}
 
 -- a list of bytes, entry by entry
 abbrev Bytes : List ℕ → Type 0

@@ -3,27 +3,26 @@
 use Prim.Native.Nat.{ℕ, zero, suc, _+_, _≤_, _<_}
 use native.Mathlib.Numerals.{add-one}
 use native.Mathlib.Omega.{arith}
-use mathlib.Core.Path.{_≡_, refl, sym, ap, ap₂, subst, subst⁻¹, _∙_}
-use mathlib.Core.Bool.{Bool, true, false, _&&_, _||_, or-true, or-comm}
+use mathlib.Core.Path.{_≡_, refl, sym, ap, subst, _∙_}
+use mathlib.Core.Bool.{Bool, true, _&&_, or-true, or-comm}
 use mathlib.Core.List.{List, [], _∷_, _++_}
 use lib.ListN.{length, getD, take, set, length-set, length-append}
 use lib.Seq.{set-set}
 use borrow.Author.Tests.{ltb-true, eq-eqb}
 use lib.Dec.{ltb, eqb}
-use Rattle.region.specs.Limits.{image-limit, writes-limit, log-limit, points-limit, const-persistence-chunk-size}
+use Rattle.region.specs.Limits.{writes-limit, points-limit, const-persistence-chunk-size}
 use Rattle.region.specs.Answer.{answer-number}
 use Rattle.region.specs.Pmemspec.{update-bytes}
 use Rattle.region.specs.declared.Answer.{Answer}
 use Rattle.region.specs.declared.Answer.the-variants as answers
 use Rattle.region.proofs.Booleans.{both, both-true}
 use Rattle.region.proofs.AnswerLaws.{answers-by-number, done-changed}
-use Rattle.replay.specs.AsyncSpec.{AsyncView, Write, flush-writes, write, readable, can-crash}
+use Rattle.replay.specs.AsyncSpec.{AsyncView, Write, write, readable, can-crash}
 use Rattle.replay.specs.Choice.{points}
-use Rattle.cuts.proofs.OneMore.{read-of-a-write}
-use Rattle.sheet.specs.Sheet.{well-formed, obeys}
+use Rattle.sheet.specs.Sheet.{obeys}
 use Rattle.sheet.proofs.Laws.{obeyed-is-formed}
-use Rattle.writelog.specs.State.{log-records, together, writes-of, view, sound, appended, emptied}
-use Rattle.writelog.specs.Flush.{flush-number, Flushes}
+use Rattle.writelog.specs.State.{log-records, together, writes-of, view, appended, emptied}
+use Rattle.writelog.specs.Flush.{Flushes}
 use Rattle.writelog.specs.declared.state.Record.{Record}
 use Rattle.writelog.specs.declared.state.State.{State}
 use Rattle.writelog.proofs.Soundness.{Sound, facts-sound}

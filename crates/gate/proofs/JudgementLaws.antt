@@ -20,10 +20,10 @@ use Rattle.sheet.specs.Sheet.{well-formed}
 use Rattle.writelog.specs.State.{log-records, together, view, sound, appended}
 use Rattle.writelog.specs.Write.{room-number}
 use Rattle.writelog.specs.declared.state.State.{State}
-use Rattle.writelog.proofs.WriteLaws.{Room, room-done, room-there}
+use Rattle.writelog.proofs.WriteLaws.{room-done, room-there}
 use Rattle.engine.specs.declared.search.Outcome.{Outcome}
 use Rattle.engine.specs.declared.search.Outcome.the-variants.{AllGood, FirstBad}
-use Rattle.engine.specs.Search.{searched, sheet-verdict, sheet-image, Searches}
+use Rattle.engine.specs.Search.{searched, sheet-verdict, Searches}
 use Rattle.gate.specs.declared.Verdict.{Verdict}
 use Rattle.gate.specs.declared.Verdict.the-variants.{Admitted, Denied, Refused}
 use Rattle.gate.specs.Meaning.{Fits}

@@ -1,10 +1,9 @@
 -- Demand 2: what the gate's answer means, for every outcome that its promise allows. Assumes nothing.
-use Prim.Native.Nat.{ℕ, zero, suc}
+use Prim.Native.Nat.{ℕ}
 use native.Mathlib.Nat.{suc-ne-zero}
 use mathlib.Core.Path.{_≡_, refl, sym, ap, subst, fun-ext, _∙_}
-use mathlib.Core.Logic.{_↔_}
-use mathlib.Core.Bool.{Bool, true, false}
-use mathlib.Core.List.{List, [], _∷_}
+use mathlib.Core.Bool.{true}
+use mathlib.Core.List.{List}
 use lib.Dec.{lit<}
 use lib.ListN.{length}
 use Rattle.region.specs.Limits.{const-persistence-chunk-size}
@@ -13,7 +12,7 @@ use Rattle.region.specs.declared.Refusal.{Refusal}
 use Rattle.region.specs.declared.Answer.the-variants as answers
 use Rattle.region.specs.Pmemspec.{update-bytes}
 use Rattle.region.proofs.AnswerLaws.{answers-by-number, done-changed}
-use Rattle.replay.specs.AsyncSpec.{AsyncView, write, readable, can-crash}
+use Rattle.replay.specs.AsyncSpec.{AsyncView, write, readable}
 use Rattle.verdict.specs.Search as search
 use Rattle.verdict.specs.Covering.{Rule, after-alone}
 use Rattle.verdict.specs.Gate.{gate-verdict, judges-images}
@@ -25,8 +24,8 @@ use Rattle.writelog.specs.declared.state.State.{State}
 use Rattle.engine.specs.Search.{sheet-verdict, sheet-image}
 use Rattle.gate.specs.declared.Verdict.{Verdict}
 use Rattle.gate.specs.declared.Verdict.the-variants.{Admitted, Denied, Refused}
-use Rattle.gate.specs.Judgement.{denied-number, verdict-report, Judgement, refused, tried, gate-points, judgement, judgement-report, judgement-work, judge-report, judge-number, Judges, Gates}
-use Rattle.gate.specs.Meaning.{Fits, Means, could-leave, image-of}
+use Rattle.gate.specs.Judgement.{verdict-report, Judgement, tried, gate-points, judgement-report, judgement-work, Judges, Gates}
+use Rattle.gate.specs.Meaning.{Fits, Means, could-leave}
 use Rattle.gate.proofs.JudgementLaws.{J, nothing-reported, one-value, fitting-tried, number-0-fits, report-8-fits, admitted-number}
 
 -- the numbers and values of document 01 tell the verdicts apart

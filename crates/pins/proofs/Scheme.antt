@@ -1,8 +1,7 @@
 -- The scheme. Each line of a promise says that a part of the outcome is one function of the inputs, so two outcomes agree in that part (`same`). An
 -- answer is promised by its report, its number with its values, and a report settles the answer (`Settles`). Assumes nothing.
 use Prim.Native.Nat.{ℕ}
-use mathlib.Core.Path.{_≡_, sym, ap, _∙_}
-use mathlib.Core.List.{List}
+use mathlib.Core.Path.{_≡_, sym, _∙_}
 use lib.ListN.{getD}
 use native.Mathlib.Omega.{arith}
 use Rattle.region.specs.Answer.{Report, refusal-number}

@@ -1,19 +1,18 @@
 -- The viewer's number, case by case, the length of its part, and what settles the part. Assumes nothing.
-use Prim.Native.Nat.{ℕ, zero, suc, _+_, _-_, _≤_, _<_}
-use native.Mathlib.Nat.{not-suc-le-zero, add-zero, add-comm}
+use Prim.Native.Nat.{ℕ, _+_, _-_, _≤_, _<_}
+use native.Mathlib.Nat.{add-zero, add-comm}
 use native.Mathlib.Omega.{arith}
 use mathlib.Core.Path.{_≡_, refl, sym, ap, ap₂, _∙_}
 use mathlib.Core.Logic.{_⊎_, inl, inr, ⊎-elim}
 use mathlib.Core.Bool.{Bool, true, false}
 use mathlib.Core.List.{List, []}
 use lib.Dec.{ltb}
-use lib.ListN.{length, take, drop, length-drop}
+use lib.ListN.{length, drop, length-drop}
 use lib.Seq.{length-take-le}
 use denote.Ref.{RefT, ptr, now}
 use borrow.Author.Tests.{lt-ltb, le-ltb, ltb-true, ltb-false}
 use Rattle.region.specs.Limits.{image-limit}
 use Rattle.region.specs.Pmemspec.{extract-bytes}
-use Rattle.region.specs.Answer.{if-done}
 use Rattle.region.proofs.AnswerLaws.{not-done}
 use Rattle.region.specs.Viewer.{viewer-answer, viewer-part, Viewed}
 

@@ -1,9 +1,9 @@
 -- The set bits of a row, counted a byte at a time. Assumes nothing.
 use Prim.Native.Nat.{ℕ, zero, suc, _+_, _-_, _*_, _/_, _%_, _^_, _≤_, _<_}
-use native.Mathlib.Nat.{le-refl, mod-lt, add-zero, zero-add, add-comm, add-assoc, suc-add, add-suc, zero-lt-suc, mod-one, mul-one, one-mul, not-suc-le-zero, le-of-suc-le-suc}
+use native.Mathlib.Nat.{le-refl, mod-lt, add-zero, zero-add, add-assoc, suc-add, add-suc, zero-lt-suc, mod-one, one-mul, not-suc-le-zero, le-of-suc-le-suc}
 use native.Mathlib.Numerals.{add-one, one-add}
 use native.Mathlib.Omega.{arith}
-use mathlib.Core.Path.{_≡_, refl, sym, ap, ap₂, subst, _∙_}
+use mathlib.Core.Path.{_≡_, refl, sym, ap, ap₂, _∙_}
 use mathlib.Core.Bool.{Bool, true, false, cond}
 use mathlib.Core.List.{List}
 use lib.Dec.{eqb}

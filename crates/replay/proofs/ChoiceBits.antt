@@ -2,14 +2,12 @@
 use Prim.Native.Nat.{ℕ, zero, suc, _+_, _-_, _/_, _<_}
 use native.Mathlib.Omega.{arith}
 use mathlib.Core.Path.{_≡_, ap, _∙_}
-use mathlib.Core.Bool.{Bool, true, false, _&&_}
+use mathlib.Core.Bool.{Bool, false, _&&_}
 use mathlib.Core.List.{List}
 use lib.ListN.{length, getD}
 use Rattle.region.specs.Limits.{const-persistence-chunk-size}
-use Rattle.region.specs.Tab.{tab}
 use Rattle.region.proofs.Tab.{getD-tab, inside-in}
-use Rattle.replay.specs.AsyncSpec.{Write}
-use Rattle.replay.specs.Choice.{touched, touches, bit, row-of}
+use Rattle.replay.specs.Choice.{touched, bit, row-of}
 
 -- the chunk of byte j is one of those that the write touches
 pub byte-touches : (addr n j : ℕ) → j < n → (addr + j) / const-persistence-chunk-size - addr / const-persistence-chunk-size < touched const-persistence-chunk-size addr n

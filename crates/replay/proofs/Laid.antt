@@ -1,17 +1,16 @@
 -- One write laid byte by byte. `lay keep s addr bytes` has the bytes of the write where `keep` says so: a whole write keeps every address
 -- (`update-is-lay`), a selective one those in selected chunks (by definition). A loop that has laid j bytes has `lay keep s addr (take j bytes)`,
 -- and one byte more is one store or none (`lay-more`). Assumes nothing.
-use Prim.Native.Nat.{ℕ, zero, suc, _+_, _-_, _≤_, _<_}
-use native.Mathlib.Nat.{lt-of-lt-of-le, le-refl, eq-or-lt-of-le, add-sub-cancel-left, sub-zero, ne-of-lt, ne-of-gt, add-zero}
-use native.Mathlib.Numerals.{add-one}
+use Prim.Native.Nat.{ℕ, suc, _+_, _-_, _≤_, _<_}
+use native.Mathlib.Nat.{le-refl, add-sub-cancel-left, sub-zero}
 use native.Mathlib.Decide.{decLt, ℕ-discrete}
 use native.Mathlib.Omega.{arith}
-use mathlib.Core.Path.{_≡_, refl, sym, ap, subst, subst⁻¹, _∙_}
+use mathlib.Core.Path.{_≡_, sym, ap, subst, subst⁻¹, _∙_}
 use mathlib.Core.Logic.{by-cases}
 use mathlib.Core.Bool.{Bool, true, false, cond, _&&_, and-true}
-use mathlib.Core.List.{List, [], _∷_}
+use mathlib.Core.List.{List, []}
 use lib.ListN.{length, getD, take, drop, set, length-set, length-drop}
-use lib.Seq.{ext-getD, getD-take, getD-drop, getD-set-same, getD-set-other, length-take-le, take-length}
+use lib.Seq.{ext-getD, getD-take, getD-drop, getD-set-same, getD-set-other, length-take-le}
 use Rattle.region.specs.Tab.{tab, inside}
 use Rattle.region.proofs.Tab.{length-tab, getD-tab, agree-tab, inside-in, inside-below, inside-above}
 use Rattle.region.specs.Pmemspec.{update-bytes, extract-bytes}

@@ -1,13 +1,12 @@
 -- A row of the table as a list of bits, and the rows from a place on, one at a time. A loop counts down the rows that are left, so these laws take
 -- one row off a number that is above 0. Assumes nothing.
-use Prim.Native.Nat.{ℕ, zero, suc, _+_, _-_, _*_, _/_, _<_}
+use Prim.Native.Nat.{ℕ, zero, suc, _+_, _-_, _*_, _<_}
 use native.Mathlib.Nat.{suc-mul, add-comm, not-suc-le-zero}
 use native.Mathlib.Numerals.{sub-one}
-use mathlib.Core.Path.{_≡_, refl, ap, _∙_}
+use mathlib.Core.Path.{_≡_}
 use mathlib.Core.Bool.{false, _&&_}
 use mathlib.Core.List.{List, _∷_}
 use lib.ListN.{getD}
-use Rattle.region.specs.Tab.{tab}
 use Rattle.region.proofs.Tab.{getD-tab}
 use Rattle.replay.specs.Rows.{row-at, row-bit, row-bytes, rows-at, row-filled, rows-filled}
 

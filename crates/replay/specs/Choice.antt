@@ -1,9 +1,9 @@
 -- Document 01's choice points and choice numbers, over the chunk size C. A choice number is a row table in another dress: `rows-of C K ws m`.
 use Prim.Native.Nat.{ℕ, zero, suc, _+_, _-_, _/_, _%_, _^_}
-use mathlib.Core.Bool.{Bool, true, false, cond, _&&_, not}
+use mathlib.Core.Bool.{Bool, _&&_}
 use mathlib.Core.List.{List, [], _∷_}
 use lib.Dec.{leb, ltb, eqb}
-use lib.ListN.{length, take}
+use lib.ListN.{length}
 use Rattle.region.specs.Tab.{tab}
 use Rattle.replay.specs.AsyncSpec.{Write, addr-to-chunk}
 

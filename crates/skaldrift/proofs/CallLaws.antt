@@ -1,12 +1,11 @@
 -- From a call's promise, at the state that the words say, to the promise of the function over it. Assumes nothing.
 use Prim.Native.Nat.{ℕ, zero, suc}
 use mathlib.Core.Path.{_≡_, refl, sym, ap, _∙_}
-use mathlib.Core.Bool.{Bool}
 use mathlib.Core.List.{List, [], _∷_}
 use lib.Dec.{eqb}
 use lib.ListN.{length, getD}
 use borrow.Author.Tests.{eq-eqb, ne-eqb}
-use Rattle.region.specs.Answer.{unless, if-done}
+use Rattle.region.specs.Answer.{if-done}
 use Rattle.region.proofs.Booleans.{cond-when, cond-unless}
 use Rattle.writelog.specs.declared.state.State.{State}
 use Rattle.skaldrift.specs.Words.{state-words, state-of, words-of, of-state}

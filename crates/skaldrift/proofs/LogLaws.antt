@@ -1,10 +1,10 @@
 -- The functions over `writelog`: what each promises of words that are no state, and of words that are one. Assumes nothing.
 use Prim.Native.Nat.{ℕ}
-use mathlib.Core.Path.{_≡_, sym, ap, subst, _∙_}
-use mathlib.Core.List.{List, [], _∷_}
+use mathlib.Core.Path.{_≡_, ap, subst, _∙_}
+use mathlib.Core.List.{List}
 use lib.ListN.{length}
 use Rattle.region.specs.Pmemspec.{update-bytes}
-use Rattle.region.specs.Answer.{Report, answer-number, if-done}
+use Rattle.region.specs.Answer.{Report, answer-number}
 use Rattle.region.specs.declared.Answer.{Answer}
 use Rattle.replay.specs.AsyncSpec.{readable}
 use Rattle.writelog.specs.State.{view, log-records, together, appended, emptied}

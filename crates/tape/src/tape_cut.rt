@@ -6,7 +6,6 @@ use writelog::cut::CutAnswer;
 use writelog::flush::emptied;
 use writelog::log::kept;
 use writelog::state::State;
-ghost use mathlib.Core.Path.{_≡_};
 ghost use Rattle.tape.specs.Cut.{TapeCuts};
 
 pub struct AfterTapeCut {

@@ -4,7 +4,6 @@ use crate::ending::ending;
 use region::Answer;
 use writelog::flush::emptied;
 use writelog::state::State;
-ghost use mathlib.Core.Path.{_≡_};
 ghost use Rattle.tape.specs.Flush.{TapeFlushes};
 
 pub struct TapeFlushed {

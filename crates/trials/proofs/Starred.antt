@@ -1,7 +1,6 @@
 -- Every starred trial gives what document 01 says: one table, one computation. Assumes nothing.
 use mathlib.Core.Path.{_≡_, refl}
-use mathlib.Core.List.{List, map}
-use Prim.Native.Nat.{ℕ}
+use mathlib.Core.List.{map}
 use Rattle.region.specs.Tab.{tab, tab-from}
 use Rattle.region.specs.Pmemspec.{update-bytes}
 use Rattle.replay.specs.AsyncSpec.{apply-write-selective, flush-writes, flush-writes-selective}

@@ -1,16 +1,16 @@
 -- The promise of a done cut, and of a refused one. Assumes nothing.
 use Prim.Native.Nat.{ℕ}
 use mathlib.Core.Path.{_≡_, refl, sym, ap, _∙_}
-use mathlib.Core.Bool.{Bool, true, false}
+use mathlib.Core.Bool.{true, false}
 use mathlib.Core.List.{List, [], _∷_}
 use lib.ListN.{length}
-use Rattle.region.specs.Answer.{Report, unless, refusal-number, if-done}
+use Rattle.region.specs.Answer.{unless, refusal-number, if-done}
 use Rattle.region.specs.declared.Refusal.{Refusal}
 use Rattle.region.proofs.AnswerLaws.{done-changed, refused-left}
 use Rattle.region.proofs.Booleans.{cond-when, cond-unless}
 use Rattle.replay.specs.Rows.{rows-right}
 use Rattle.writelog.specs.State.{sound, emptied}
-use Rattle.writelog.specs.Cut.{cut-report, chunks, cut-number, cut-image, cut-kept, Cuts}
+use Rattle.writelog.specs.Cut.{chunks, cut-number, cut-image, cut-kept, Cuts}
 use Rattle.writelog.specs.declared.state.State.{State}
 use Rattle.writelog.specs.declared.cut.CutAnswer.the-variants.{Kept, Refused}
 

@@ -1,13 +1,13 @@
 -- The kept count by addresses and lengths, one record at a time. Assumes nothing.
-use Prim.Native.Nat.{ℕ, zero, suc, _+_, _-_, _*_, _/_, _≤_, _<_}
+use Prim.Native.Nat.{ℕ, zero, suc, _+_, _-_, _/_, _≤_, _<_}
 use native.Mathlib.Omega.{arith}
-use mathlib.Core.Path.{_≡_, refl, sym, ap, ap₂, _∙_}
-use mathlib.Core.Bool.{Bool, true, false}
+use mathlib.Core.Path.{_≡_, refl, ap, ap₂, _∙_}
+use mathlib.Core.Bool.{Bool, false}
 use mathlib.Core.List.{List, [], _∷_}
 use lib.ListN.{length, getD, take, drop, length-drop}
 use lib.Seq.{length-take-le}
 use Rattle.region.specs.Limits.{const-persistence-chunk-size}
-use Rattle.replay.specs.AsyncSpec.{Write, addr-to-chunk, size-to-chunks}
+use Rattle.replay.specs.AsyncSpec.{addr-to-chunk, size-to-chunks}
 use Rattle.replay.specs.Choice.{touched}
 use Rattle.replay.specs.Rows.{set-bits, row-bit, row-at, rows-at, row-bytes}
 use Rattle.replay.specs.Kept.{kept, kept-of}

@@ -5,7 +5,7 @@ use native.Mathlib.Nat.{add-sub-cancel-left, suc-add, zero-add}
 use native.Mathlib.Numerals.{add-one}
 use native.Mathlib.Omega.{arith}
 use mathlib.Core.Path.{_≡_, refl, sym, ap, ap₂, subst, subst⁻¹, _∙_}
-use mathlib.Core.Bool.{Bool, true, _&&_}
+use mathlib.Core.Bool.{true}
 use mathlib.Core.List.{List, [], _∷_, _++_}
 use lib.Dec.{leb}
 use lib.ListN.{length, getD, take, drop, set, length-set, length-drop}
@@ -14,9 +14,9 @@ use borrow.Author.Tests.{le-leb}
 use Rattle.region.specs.Limits.{image-limit, writes-limit, log-limit}
 use Rattle.region.specs.Pmemspec.{update-bytes}
 use Rattle.region.proofs.Booleans.{both, both-true}
-use Rattle.replay.specs.AsyncSpec.{AsyncView, Write, write}
-use Rattle.replay.proofs.Laid.{lay, update-is-lay, length-lay, lay-in, lay-below}
-use Rattle.writelog.specs.State.{log-records, together, records-inside, writes-of, view, sound, appended, emptied}
+use Rattle.replay.specs.AsyncSpec.{Write, write}
+use Rattle.replay.proofs.Laid.{update-is-lay, length-lay, lay-in, lay-below}
+use Rattle.writelog.specs.State.{log-records, together, records-inside, writes-of, view, appended, emptied}
 use Rattle.writelog.specs.declared.state.Record.{Record}
 use Rattle.writelog.specs.declared.state.State.{State}
 use Rattle.writelog.proofs.Soundness.{Sound}

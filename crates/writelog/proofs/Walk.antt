@@ -1,22 +1,20 @@
 -- One step of a walk over the log: what is known of the oldest remaining write, and of those after it. Assumes nothing.
-use Prim.Native.Nat.{ℕ, zero, suc, _+_, _-_, _*_, _≤_, _<_}
+use Prim.Native.Nat.{ℕ, _+_, _-_, _≤_, _<_}
 use native.Mathlib.Nat.{add-sub-cancel-left, min-le-left, sub-self, le-refl}
 use native.Mathlib.Omega.{arith}
 use mathlib.Core.Path.{_≡_, sym, ap, ap₂, _∙_}
-use mathlib.Core.Bool.{Bool, true}
 use mathlib.Core.List.{List, [], _∷_}
 use lib.ListN.{length, take, drop, length-take}
 use lib.Seq.{drop-drop}
 use borrow.Author.Tests.{leb-true}
 use Rattle.region.specs.Limits.{writes-limit}
 use Rattle.region.proofs.Booleans.{both}
-use Rattle.replay.specs.AsyncSpec.{Write}
 use Rattle.writelog.specs.State.{log-records, together, records-inside, writes-of}
 use Rattle.writelog.specs.Log.{last-records, last-writes, Remaining}
 use Rattle.writelog.specs.declared.state.Record.{Record}
 use Rattle.writelog.specs.declared.state.State.{State}
 use Rattle.writelog.proofs.Soundness.{Sound}
-use Rattle.writelog.proofs.Records.{next, rest, together-more, inside-more, writes-more, records-none}
+use Rattle.writelog.proofs.Records.{next, together-more, inside-more, writes-more, records-none}
 
 -- the oldest of the last `left` records
 abbrev pub oldest : State → ℕ → Record

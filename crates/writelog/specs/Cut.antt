@@ -6,7 +6,7 @@ use mathlib.Core.List.{List, [], _∷_}
 use lib.ListN.{length}
 use Rattle.region.specs.Limits.{const-persistence-chunk-size}
 use Rattle.region.specs.Answer.{Report, refusal-number, unless, if-done}
-use Rattle.replay.specs.AsyncSpec.{AsyncView, size-to-chunks, flush-selective}
+use Rattle.replay.specs.AsyncSpec.{size-to-chunks, flush-selective}
 use Rattle.replay.specs.Rows.{rows-right, rows-at}
 use Rattle.replay.specs.Kept.{kept}
 use Rattle.writelog.specs.State.{view, sound, emptied}

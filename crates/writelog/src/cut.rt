@@ -11,7 +11,6 @@ use replay::rows::row_bytes;
 use replay::rows::rows_filled;
 ghost use mathlib.Core.Path.{_≡_};
 ghost use Prim.Native.Nat.{_≤_};
-ghost use lib.ListN.{length};
 ghost use Rattle.region.specs.Limits.{image-limit, writes-limit, const-persistence-chunk-size};
 ghost use Rattle.replay.specs.AsyncSpec.{size-to-chunks};
 ghost use Rattle.replay.specs.Rows.{rows-right};

@@ -12,7 +12,7 @@ use replay::rows::set_bits;
 ghost use mathlib.Core.Path.{_≡_};
 ghost use Prim.Native.Nat.{_+_, _*_, _≤_};
 ghost use lib.ListN.{length};
-ghost use Rattle.region.specs.Limits.{const-persistence-chunk-size, log-limit};
+ghost use Rattle.region.specs.Limits.{const-persistence-chunk-size};
 ghost use Rattle.replay.specs.AsyncSpec.{size-to-chunks, committed, flush-writes, flush-writes-selective};
 ghost use Rattle.replay.specs.Rows.{row-bytes, rows-at};
 ghost use Rattle.writelog.specs.Log.{last-writes, Remaining, kept-records, KeptFrom};

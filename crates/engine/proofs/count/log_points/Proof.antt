@@ -1,6 +1,6 @@
 -- The loop's invariant: the points counted and those of the records from i on are all points. A write touches no more chunks than it has bytes, so
 -- the count stays below the outstanding bytes. Assumes nothing.
-use Rattle.engine.specs.Count.{record-points, Countable}
+use Rattle.engine.specs.Count.{record-points}
 use Rattle.writelog.proofs.KeptLaws.{touched-le}
 use Rattle.writelog.proofs.Records.{next, rest, next-and-rest, together-more, inside-more, records-none}
 use Rattle.writelog.specs.declared.state.State.{State}
@@ -8,15 +8,15 @@ use Rattle.writelog.specs.declared.state.Record.{Record}
 use Rattle.writelog.specs.State.{log-records, together, records-inside}
 use Rattle.replay.specs.Choice.{touched}
 use Rattle.region.specs.Limits.{image-limit}
-use Rattle.region.proofs.Booleans.{both, and-when}
+use Rattle.region.proofs.Booleans.{both}
 use borrow.Author.Tests.{leb-true}
 use lib.ListN.{length, drop}
 use mathlib.Core.List.{List, []}
-use mathlib.Core.Bool.{Bool, true}
+use mathlib.Core.Bool.{true}
 use mathlib.Core.Path.{_≡_, refl, sym, ap, _∙_}
 use native.Mathlib.Omega.{arith}
 use native.Mathlib.Nat.{zero-add, add-zero}
-use Prim.Native.Nat.{ℕ, _+_, _-_, _≤_, _<_}
+use Prim.Native.Nat.{ℕ, _+_, _-_, _≤_}
 use Rattle.engine.proofs.count.log_points.Statement.{statement}
 use Rattle.engine.proofs.count.log_points.Tie as tie
 use Rattle.engine.proofs.count.log_points.Reads as reads

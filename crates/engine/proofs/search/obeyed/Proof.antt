@@ -1,5 +1,5 @@
 use Rattle.sheet.proofs.Laws.{malformed-iff, obeys-iff, breaks-iff, malformed-is-not-obeyed}
-use mathlib.Core.Path.{_≡_, sym, _∙_}
+use mathlib.Core.Path.{sym, _∙_}
 use borrow.Author.Needs.{needs}
 use Rattle.engine.proofs.search.obeyed.Statement.{statement}
 use Rattle.engine.proofs.search.obeyed.Tie as tie

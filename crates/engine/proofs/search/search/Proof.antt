@@ -5,9 +5,9 @@ use Rattle.writelog.specs.State.{view}
 use borrow.Author.Tests.{not-true, not-false}
 use lib.ListN.{length}
 use lib.Pow.{pow-pos}
-use mathlib.Core.Path.{_≡_, refl, sym, ap, subst⁻¹, _∙_}
+use mathlib.Core.Path.{_≡_, refl, sym, subst⁻¹, _∙_}
 use native.Mathlib.Omega.{arith}
-use Prim.Native.Nat.{ℕ, _+_, _-_, _*_, _%_, _^_, _≤_, _<_}
+use Prim.Native.Nat.{ℕ, _+_, _-_, _^_, _<_}
 use Rattle.cuts.specs.Number.{choice-points}
 use Rattle.replay.specs.AsyncSpec.{write}
 use Rattle.region.specs.Limits.{const-persistence-chunk-size}

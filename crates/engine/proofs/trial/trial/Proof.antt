@@ -5,9 +5,9 @@ use Rattle.writelog.specs.Log.{Remaining}
 use Rattle.replay.proofs.Laid.{update-whole}
 use Rattle.replay.specs.Choice.{touched}
 use lib.ListN.{length}
-use mathlib.Core.Path.{_≡_, sym, ap, subst⁻¹, _∙_}
+use mathlib.Core.Path.{ap, subst⁻¹, _∙_}
 use native.Mathlib.Omega.{arith}
-use Prim.Native.Nat.{ℕ, _-_, _≤_}
+use Prim.Native.Nat.{ℕ, _-_}
 use borrow.Author.Needs.{needs}
 use Rattle.engine.proofs.trial.trial.Statement.{statement}
 use Rattle.engine.proofs.trial.trial.Tie as tie

@@ -7,7 +7,7 @@ use Rattle.region.specs.declared.Refusal.the-variants.{BadState}
 use lib.ListN.{length}
 use mathlib.Core.Path.{_≡_, refl, ap, _∙_}
 use native.Mathlib.Omega.{arith}
-use Prim.Native.Nat.{ℕ, _+_, _≤_, _<_}
+use Prim.Native.Nat.{ℕ}
 use borrow.Author.Needs.{needs}
 use Rattle.gate.proofs.gate.gate.Statement.{statement}
 use Rattle.gate.proofs.gate.gate.Tie as tie

@@ -1,8 +1,7 @@
 -- The tests of a judgement from 1's working image on. Assumes nothing.
 use Rattle.gate.proofs.JudgementLaws.{judgement-other-length, judgement-malformed, judgement-no-room, judgement-room, judges-refused, judges-weighed}
-use Rattle.writelog.proofs.Soundness.{Sound, sound-facts}
-use Rattle.writelog.proofs.WriteLaws.{Room, room-done}
-use Rattle.writelog.specs.Write.{room-number}
+use Rattle.writelog.proofs.Soundness.{sound-facts}
+use Rattle.writelog.proofs.WriteLaws.{room-done}
 use Rattle.sheet.specs.Sheet.{well-formed}
 use Rattle.region.specs.Answer.{answer-number}
 use Rattle.region.specs.declared.Refusal.the-variants.{BadState, BadSheet}
@@ -11,7 +10,6 @@ use lib.ListN.{length}
 use mathlib.Core.Bool.{true}
 use mathlib.Core.Path.{_≡_, sym, ap, _∙_}
 use native.Mathlib.Omega.{arith}
-use Prim.Native.Nat.{ℕ}
 use borrow.Author.Needs.{needs}
 use Rattle.gate.proofs.judge.decide.Statement.{statement}
 use Rattle.gate.proofs.judge.decide.Tie as tie

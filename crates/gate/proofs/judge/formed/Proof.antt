@@ -1,5 +1,5 @@
 use Rattle.sheet.proofs.Laws.{malformed-iff, obeys-iff, breaks-iff}
-use mathlib.Core.Path.{_≡_, sym, _∙_}
+use mathlib.Core.Path.{sym, _∙_}
 use borrow.Author.Needs.{needs}
 use Rattle.gate.proofs.judge.formed.Statement.{statement}
 use Rattle.gate.proofs.judge.formed.Tie as tie

@@ -1,6 +1,6 @@
 -- The test of the state, and then the judging. Assumes nothing.
 use Rattle.gate.proofs.JudgementLaws.{judgement-unsound, judges-refused}
-use Rattle.writelog.proofs.Soundness.{Told, told-bytes, told-unsound}
+use Rattle.writelog.proofs.Soundness.{told-bytes, told-unsound}
 use Rattle.region.specs.declared.Refusal.the-variants.{BadState}
 use borrow.Author.Needs.{needs}
 use Rattle.gate.proofs.judge.judge.Statement.{statement}

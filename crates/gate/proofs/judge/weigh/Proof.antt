@@ -2,7 +2,6 @@
 use Rattle.gate.proofs.JudgementLaws.{weighs-many, weighs-admitted, weighs-denied}
 use Rattle.gate.specs.Judgement.{gate-points}
 use Rattle.engine.proofs.PointLaws.{inside-longer, record-points-le, points-with-a-write}
-use Rattle.engine.specs.Search.{Searches}
 use Rattle.writelog.proofs.KeptLaws.{touched-le}
 use Rattle.writelog.proofs.Soundness.{Sound, sound-facts}
 use Rattle.writelog.specs.State.{log-records}

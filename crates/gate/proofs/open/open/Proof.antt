@@ -2,7 +2,7 @@
 use Rattle.gate.proofs.OpeningLaws.{open-long, open-other-log, open-malformed, open-broken, open-good, opens-done, opens-refused}
 use Rattle.sheet.proofs.Laws.{malformed-iff, obeys-iff, breaks-iff}
 use Rattle.region.specs.declared.Refusal.the-variants.{BadState, BadSheet, BrokenImage}
-use mathlib.Core.Path.{_≡_, sym, _∙_}
+use mathlib.Core.Path.{sym, _∙_}
 use borrow.Author.Needs.{needs}
 use Rattle.gate.proofs.open.open.Statement.{statement}
 use Rattle.gate.proofs.open.open.Tie as tie

@@ -1,19 +1,18 @@
 use Rattle.replay.proofs.ChoiceBits.{byte-touches, chosen-bit}
-use Rattle.replay.proofs.Laid.{lay, length-lay, lay-none, lay-kept, lay-lost}
+use Rattle.replay.proofs.Laid.{lay, lay-none, lay-kept, lay-lost}
 use Rattle.replay.specs.Choice.{bit, row-of}
 use Rattle.replay.specs.AsyncSpec.{size-to-chunks, apply-write-selective}
 use Rattle.region.specs.Limits.{const-persistence-chunk-size}
-use lib.Dec.{eqb}
 use lib.Seq.{take-length}
 use lib.ListN.{length, getD, take, set, length-set}
 use borrow.Author.Tests.{eq-eqb, ne-eqb}
-use mathlib.Core.Bool.{Bool, true, false}
+use mathlib.Core.Bool.{Bool, false}
 use mathlib.Core.List.{List}
 use mathlib.Core.Logic.{⊎-elim}
 use mathlib.Core.Path.{_≡_, refl, sym, ap, _∙_}
 use native.Mathlib.Omega.{arith}
 use native.Mathlib.Numerals.{add-one}
-use Prim.Native.Nat.{ℕ, _+_, _-_, _/_, _%_, _^_, _≤_, _<_}
+use Prim.Native.Nat.{ℕ, _+_, _-_, _/_, _≤_, _<_}
 use Rattle.replay.proofs.lay.lay_chosen.Statement.{statement}
 use Rattle.replay.proofs.lay.lay_chosen.Tie as tie
 use Rattle.replay.proofs.lay.lay_chosen.Reads as reads

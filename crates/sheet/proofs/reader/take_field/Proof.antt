@@ -1,7 +1,7 @@
 -- `take_field` meets its contract: a walk of its MIR, by hand. The reader that `standing` returns is held in a local and passed to `next_field`. All that the proof knows of the two is that each meets its contract.
 -- The machine value that `standing` returns is stored and passed on as it is. In a local of a body MIR erases the lifetime of the struct's type, so the value is shown to have the type at `erased`.
 -- Assumes nothing.
-use mathlib.Core.Path.{_≡_, refl, sym, ap, ap₂, subst, _∙_}
+use mathlib.Core.Path.{_≡_, refl, sym, ap₂, subst, _∙_}
 use Prim.Native.Nat.{ℕ, _≤_, _<_, _^_}
 use mathlib.Core.List.{List, [], _∷_}
 use lib.ListN.{length}

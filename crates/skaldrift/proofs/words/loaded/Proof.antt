@@ -1,12 +1,11 @@
 -- `loaded` meets its contract. Invariant: the first i records are those that the words say. Assumes nothing.
-use Prim.Native.Nat.{ℕ, _-_, _≤_}
+use Prim.Native.Nat.{_-_, _≤_}
 use native.Mathlib.Omega.{arith}
 use mathlib.Core.Path.{_≡_, refl, ap, _∙_}
 use mathlib.Core.List.{List}
 use lib.ListN.{length, getD, take, drop, length-set}
-use Rattle.writelog.specs.declared.state.State.{State}
 use Rattle.writelog.specs.declared.state.Record.{Record}
-use Rattle.skaldrift.specs.Words.{records-of, state-words}
+use Rattle.skaldrift.specs.Words.{records-of}
 use Rattle.skaldrift.proofs.WordLaws.{load-more, said-length, front-all}
 use Rattle.skaldrift.proofs.words.loaded.Statement.{statement}
 use Rattle.skaldrift.proofs.words.loaded.Tie as tie

@@ -1,10 +1,9 @@
 -- `stored` meets its contract. Invariant: the words of the count and of the first i records are the state's. Assumes nothing.
-use Prim.Native.Nat.{ℕ, _+_, _*_, _-_, _≤_}
+use Prim.Native.Nat.{_+_, _*_, _-_, _≤_}
 use native.Mathlib.Omega.{arith}
-use mathlib.Core.Path.{_≡_, refl, sym, ap, _∙_}
-use mathlib.Core.List.{List}
+use mathlib.Core.Path.{_≡_, refl, sym, _∙_}
 use lib.ListN.{length, getD, take, set, length-set, length-map}
-use Rattle.skaldrift.specs.Words.{words-of, state-words}
+use Rattle.skaldrift.specs.Words.{words-of}
 use Rattle.skaldrift.proofs.WordLaws.{store-more, words-length, front-more, front-all}
 use Rattle.skaldrift.proofs.words.stored.Statement.{statement}
 use Rattle.skaldrift.proofs.words.stored.Tie as tie

@@ -5,9 +5,8 @@ use Rattle.replay.proofs.RowBits.{one-less, rows-at-more}
 use Rattle.replay.specs.Rows.{row-at, rows-at, row-bytes}
 use Rattle.replay.specs.AsyncSpec.{Write, size-to-chunks, apply-write-selective, flush-writes-selective}
 use Rattle.region.specs.Limits.{const-persistence-chunk-size}
-use lib.ListN.{length, take, drop}
+use lib.ListN.{length}
 use mathlib.Core.List.{List}
-use mathlib.Core.Bool.{Bool}
 use mathlib.Core.Path.{_≡_, sym, ap, ap₂, subst, subst⁻¹, _∙_}
 use native.Mathlib.Omega.{arith}
 use native.Mathlib.Nat.{pos-of-ne-zero}

@@ -3,13 +3,12 @@ use Rattle.writelog.proofs.Walk.{piece-is, piece-le, StepBy, step, no-m
 use Rattle.writelog.specs.Log.{last-writes, Remaining}
 use Rattle.replay.specs.AsyncSpec.{Write, committed, flush-writes}
 use Rattle.region.specs.Pmemspec.{update-bytes}
-use lib.ListN.{length, take, drop}
-use borrow.Author.Needs.{needs}
+use lib.ListN.{length}
 use mathlib.Core.List.{List}
-use mathlib.Core.Path.{_≡_, sym, ap, subst, subst⁻¹, _∙_}
+use mathlib.Core.Path.{sym, ap, subst, subst⁻¹, _∙_}
 use native.Mathlib.Omega.{arith}
-use native.Mathlib.Nat.{add-sub-cancel-left, pos-of-ne-zero}
-use Prim.Native.Nat.{_+_, _-_, _≤_}
+use native.Mathlib.Nat.{pos-of-ne-zero}
+use Prim.Native.Nat.{_+_, _-_}
 use Prim.Native.Nat.{ℕ, _<_}
 use borrow.Fn.Kinds.{In}
 use borrow.Fn.PlainCycle.{Measures, is, falls, and}

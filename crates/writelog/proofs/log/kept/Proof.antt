@@ -3,7 +3,7 @@ use Rattle.writelog.proofs.KeptLaws.{touched-le, touched-inside, kept-m
 use Rattle.writelog.proofs.Records.{next, rest, next-and-rest, together-more, inside-more, records-none}
 use Rattle.writelog.specs.declared.state.State.{State}
 use Rattle.writelog.specs.declared.state.Record.{Record}
-use Rattle.writelog.specs.Log.{kept-records, KeptFrom}
+use Rattle.writelog.specs.Log.{kept-records}
 use Rattle.writelog.specs.State.{log-records, together, records-inside}
 use Rattle.replay.proofs.RowBits.{one-less}
 use Rattle.replay.proofs.ByteBits.{set-bits-le}
@@ -12,14 +12,12 @@ use Rattle.replay.specs.Choice.{touched}
 use Rattle.replay.specs.AsyncSpec.{size-to-chunks}
 use Rattle.region.proofs.Booleans.{both, and-when}
 use borrow.Author.Tests.{leb-true}
-use borrow.Author.Needs.{needs}
 use lib.ListN.{length, drop}
 use mathlib.Core.List.{List, []}
-use mathlib.Core.Bool.{Bool, true}
-use mathlib.Core.Path.{_≡_, refl, sym, ap, ap₂, subst, subst⁻¹, _∙_}
+use mathlib.Core.Path.{_≡_, refl, sym, ap, subst, subst⁻¹, _∙_}
 use native.Mathlib.Omega.{arith}
 use native.Mathlib.Nat.{zero-add, add-zero, sub-zero}
-use Prim.Native.Nat.{ℕ, _+_, _-_, _*_, _/_, _≤_, _<_}
+use Prim.Native.Nat.{ℕ, _+_, _-_, _*_, _/_, _≤_}
 use Rattle.writelog.proofs.log.kept.Statement.{statement}
 use Rattle.writelog.proofs.log.kept.Tie as tie
 use Rattle.writelog.proofs.log.kept.Reads as reads

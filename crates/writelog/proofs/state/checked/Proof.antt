@@ -2,19 +2,17 @@ use Rattle.writelog.proofs.Soundness.{Sound, facts-sound, facts-unsound
 use Rattle.writelog.proofs.Records.{next, rest, together-more, inside-more, records-none}
 use Rattle.writelog.specs.declared.state.Outstanding.the-variants.{Bytes, Unsound}
 use Rattle.writelog.specs.declared.state.Record.{Record}
-use Rattle.writelog.specs.State.{log-records, together, records-inside, sound, no-record}
+use Rattle.writelog.specs.State.{log-records, together, records-inside, sound}
 use Rattle.region.proofs.Booleans.{cond-when, cond-unless, and-when, and-unless}
-use lib.ListN.{length, getD, drop, length-map}
+use lib.ListN.{length, drop, length-map}
 use lib.Dec.{leb}
 use borrow.Author.Tests.{not-true, not-false}
-use borrow.Author.Needs.{needs}
-use mathlib.Core.List.{List, [], _∷_, map}
-use mathlib.Core.Bool.{Bool, true, false, cond, _&&_, false≢true}
-use mathlib.Core.Path.{_≡_, refl, sym, ap, subst, _∙_}
+use mathlib.Core.List.{List, []}
+use mathlib.Core.Bool.{true, false, cond, _&&_, false≢true}
+use mathlib.Core.Path.{_≡_, refl, sym, ap, _∙_}
 use native.Mathlib.Omega.{arith}
-use native.Mathlib.Numerals.{add-one}
 use native.Mathlib.Nat.{add-zero, zero-add}
-use Prim.Native.Nat.{ℕ, suc, _+_, _-_, _≤_, _<_}
+use Prim.Native.Nat.{ℕ, _+_, _-_, _≤_}
 use Rattle.writelog.proofs.state.checked.Statement.{statement}
 use Rattle.writelog.proofs.state.checked.Tie as tie
 use Rattle.writelog.proofs.state.checked.Reads as reads
