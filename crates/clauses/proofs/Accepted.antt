@@ -11,15 +11,15 @@ use Rattle.region.specs.Pmemspec.{update-bytes}
 use Rattle.region.specs.declared.Answer.{Answer}
 use Rattle.region.specs.declared.Answer.the-variants.{Done}
 use Rattle.cuts.proofs.Lengths.{length-flush, length-flush-selective}
-use Rattle.writelog.specs.State.{log-records, together, view, sound, appended, emptied}
+use Rattle.records.specs.State.{log-records, together, view, sound, appended, emptied}
 use Rattle.writelog.specs.Write.{write-number, Writes}
 use Rattle.writelog.specs.Flush.{flush-number, Flushes}
 use Rattle.writelog.specs.Cut.{table-rows, cut-number, Cuts}
-use Rattle.writelog.specs.declared.state.State.{State}
+use Rattle.records.specs.declared.state.State.{State}
 use Rattle.writelog.specs.declared.cut.CutAnswer.{CutAnswer}
-use Rattle.writelog.proofs.Soundness.{Sound, sound-facts, facts-sound}
-use Rattle.writelog.proofs.WriteLaws.{Room, room-done, write-sound}
-use Rattle.writelog.proofs.Views.{sized-of-appended, sound-after-recorded, sound-after-emptied}
+use Rattle.records.proofs.Soundness.{Sound, sound-facts, facts-sound, Room}
+use Rattle.writelog.proofs.WriteLaws.{room-done, write-sound}
+use Rattle.records.proofs.Views.{sized-of-appended, sound-after-recorded, sound-after-emptied}
 use Rattle.gate.specs.Opening.{Opens}
 use Rattle.gate.specs.Judgement.{judge-number, Gates}
 use Rattle.gate.specs.declared.Verdict.{Verdict}

@@ -23,14 +23,14 @@ use Rattle.cuts.proofs.OneMore.{read-of-a-write}
 use Rattle.cuts.proofs.Prophecy.{prophecy-of-nothing}
 use Rattle.cuts.proofs.Shape.{shaped-rows-crash}
 use Rattle.cuts.proofs.Tables.{rows-at-shape}
-use Rattle.writelog.specs.State.{log-records, writes-of, view, records-inside, sound}
+use Rattle.records.specs.State.{log-records, writes-of, view, records-inside, sound}
 use Rattle.writelog.specs.Cut.{chunks, table-rows, cut-number, cut-image, Cuts}
-use Rattle.writelog.specs.declared.state.Record.{Record}
-use Rattle.writelog.specs.declared.state.State.{State}
+use Rattle.records.specs.declared.state.Record.{Record}
+use Rattle.records.specs.declared.state.State.{State}
 use Rattle.writelog.specs.declared.cut.CutAnswer.the-variants.{Kept}
-use Rattle.writelog.proofs.Soundness.{sound-facts}
+use Rattle.records.proofs.Soundness.{sound-facts}
 use Rattle.writelog.proofs.WriteLaws.{passed}
-use Rattle.writelog.proofs.Views.{writes-counted}
+use Rattle.records.proofs.Views.{writes-counted}
 
 -- `serialize_and_write` of pmem_async_spec_t.rs, without the object: what a write inside the region put there is read back
 pub written-is-read : (v : AsyncView) (addr : ℕ) (bytes : List ℕ) → addr + length bytes ≤ len v → extract-bytes (readable (write v addr bytes)) addr (length bytes) ≡ bytes

@@ -15,8 +15,8 @@ use Rattle.region.specs.Answer.{unless}
 use Rattle.region.specs.declared.Answer.the-variants as answer
 use Rattle.region.proofs.AnswerLaws.{done-changed}
 use Rattle.sheet.specs.Sheet.{byte-bits, obeys}
-use Rattle.writelog.specs.declared.state.State.{State}
-use Rattle.writelog.proofs.Soundness.{facts-sound}
+use Rattle.records.specs.declared.state.State.{State}
+use Rattle.records.proofs.Soundness.{facts-sound}
 use Rattle.writelog.proofs.FlushLaws.{flushes-done}
 use Rattle.gate.specs.Opening.{fresh, Opens}
 use Rattle.gate.proofs.Meaning.{admitting}

@@ -15,14 +15,14 @@ use Rattle.replay.specs.AsyncSpec.{write}
 use Rattle.cuts.specs.Bits.{new-write}
 use Rattle.cuts.specs.Number.{choice-points}
 use Rattle.cuts.proofs.Choices.{points-of-one-more}
-use Rattle.writelog.specs.State.{log-records, together, writes-of, records-inside, sound, view}
-use Rattle.writelog.specs.Log.{last-records, Remaining}
-use Rattle.writelog.specs.declared.state.Record.{Record}
-use Rattle.writelog.specs.declared.state.State.{State}
-use Rattle.writelog.proofs.Records.{next-and-rest}
-use Rattle.writelog.proofs.Walk.{oldest}
-use Rattle.writelog.proofs.KeptLaws.{touched-le}
-use Rattle.writelog.proofs.Soundness.{sound-facts}
+use Rattle.records.specs.State.{log-records, together, writes-of, records-inside, sound, view}
+use Rattle.records.specs.Log.{last-records, Remaining}
+use Rattle.records.specs.declared.state.Record.{Record}
+use Rattle.records.specs.declared.state.State.{State}
+use Rattle.records.proofs.Records.{next-and-rest}
+use Rattle.records.proofs.Walk.{oldest}
+use Rattle.records.proofs.KeptLaws.{touched-le}
+use Rattle.records.proofs.Soundness.{sound-facts}
 use Rattle.engine.specs.Count.{record-points}
 
 pub points-by-records : (C : ℕ) (rs : List Record) (log : List ℕ) → together rs ≤ length log → points C (writes-of rs log) ≡ record-points C rs

@@ -19,8 +19,8 @@ use Rattle.verdict.proofs.Search.{verdict-at-start, verdict-goes-on, verdict-st
 use Rattle.verdict.proofs.Gate.{last-trial-is-the-read-image}
 use Rattle.sheet.specs.Sheet.{obeys}
 use Rattle.sheet.proofs.Laws.{before-unseen}
-use Rattle.writelog.specs.State.{view}
-use Rattle.writelog.specs.declared.state.State.{State}
+use Rattle.records.specs.State.{view}
+use Rattle.records.specs.declared.state.State.{State}
 use Rattle.engine.specs.declared.search.Outcome.the-variants.{AllGood, FirstBad}
 use Rattle.engine.specs.Search.{Ready, Searches, sheet-verdict, sheet-image}
 use Rattle.engine.proofs.PointLaws.{points-with-a-write}

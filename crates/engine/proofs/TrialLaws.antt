@@ -13,11 +13,11 @@ use Rattle.replay.specs.Choice.{touched, row-of, rows-of}
 use Rattle.cuts.specs.Bits.{new-write}
 use Rattle.cuts.specs.Number.{choice-image, choice-points}
 use Rattle.cuts.proofs.Pairs.{choice-of-a-write}
-use Rattle.writelog.specs.State.{log-records, view}
-use Rattle.writelog.specs.Log.{last-writes, Remaining}
-use Rattle.writelog.specs.declared.state.State.{State}
-use Rattle.writelog.proofs.Soundness.{Sound, sound-facts}
-use Rattle.writelog.proofs.Walk.{all-writes, all-remain}
+use Rattle.records.specs.State.{log-records, view}
+use Rattle.records.specs.Log.{last-writes, Remaining}
+use Rattle.records.specs.declared.state.State.{State}
+use Rattle.records.proofs.Soundness.{Sound, sound-facts}
+use Rattle.records.proofs.Walk.{all-writes, all-remain}
 use Rattle.engine.specs.Count.{record-points}
 use Rattle.engine.specs.Search.{Ready}
 use Rattle.engine.proofs.PointLaws.{points-by-records}

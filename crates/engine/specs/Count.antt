@@ -7,9 +7,9 @@ use mathlib.Core.List.{List, [], _∷_}
 use lib.ListN.{length}
 use Rattle.region.specs.Limits.{image-limit, writes-limit, log-limit}
 use Rattle.replay.specs.Choice.{touched}
-use Rattle.writelog.specs.State.{log-records, together, records-inside}
-use Rattle.writelog.specs.declared.state.Record.{Record}
-use Rattle.writelog.specs.declared.state.State.{State}
+use Rattle.records.specs.State.{log-records, together, records-inside}
+use Rattle.records.specs.declared.state.Record.{Record}
+use Rattle.records.specs.declared.state.State.{State}
 
 unfoldable pub record-points : ℕ → List Record → ℕ
 record-points C [] = 0

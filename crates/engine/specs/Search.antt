@@ -11,8 +11,8 @@ use Rattle.replay.specs.AsyncSpec.{AsyncView}
 use Rattle.verdict.specs.Search.{Verdict, admit, deny}
 use Rattle.verdict.specs.Gate.{gate-verdict, gate-image}
 use Rattle.sheet.specs.Sheet.{obeys}
-use Rattle.writelog.specs.State.{log-records, sound}
-use Rattle.writelog.specs.declared.state.State.{State}
+use Rattle.records.specs.State.{log-records, sound}
+use Rattle.records.specs.declared.state.State.{State}
 use Rattle.engine.specs.Count.{record-points}
 use Rattle.engine.specs.declared.search.Outcome.{Outcome}
 use Rattle.engine.specs.declared.search.Outcome.the-variants.{AllGood, FirstBad}

@@ -1,10 +1,10 @@
 // The choice points of the log.
+use records::state::Record;
+use records::state::State;
 use replay::points::touched;
-use writelog::state::Record;
-use writelog::state::State;
 ghost use mathlib.Core.Path.{_≡_};
 ghost use Rattle.region.specs.Limits.{const-persistence-chunk-size};
-ghost use Rattle.writelog.specs.State.{log-records};
+ghost use Rattle.records.specs.State.{log-records};
 ghost use Rattle.engine.specs.Count.{record-points, Countable};
 
 pub fn log_points(state: State) -> usize

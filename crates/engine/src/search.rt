@@ -1,12 +1,12 @@
 // The search: all choice numbers from 0 on, to the first whose image breaks the sheet.
 use crate::trial::trial;
+use records::state::State;
 use sheet::Judged;
 use sheet::judge;
-use writelog::state::State;
 ghost use mathlib.Core.Path.{_≡_};
 ghost use lib.ListN.{length};
 ghost use Rattle.sheet.specs.Sheet.{obeys};
-ghost use Rattle.writelog.specs.State.{view};
+ghost use Rattle.records.specs.State.{view};
 ghost use Rattle.engine.specs.Search.{Ready, Searches};
 
 pub enum Outcome {

@@ -1,9 +1,9 @@
 // One trial: the image that a choice number leaves, with the new write in the log.
+use records::state::Record;
+use records::state::State;
 use replay::lay::lay;
 use replay::lay::lay_chosen;
 use replay::points::touched;
-use writelog::state::Record;
-use writelog::state::State;
 ghost use mathlib.Core.Path.{_≡_};
 ghost use Prim.Native.Nat.{_+_, _≤_};
 ghost use lib.ListN.{length};
@@ -11,8 +11,8 @@ ghost use Rattle.region.specs.Limits.{const-persistence-chunk-size, points-limi
 ghost use Rattle.replay.specs.AsyncSpec.{size-to-chunks, flush-writes-selective, write};
 ghost use Rattle.replay.specs.Choice.{touched, rows-of};
 ghost use Rattle.cuts.specs.Number.{choice-image};
-ghost use Rattle.writelog.specs.State.{view};
-ghost use Rattle.writelog.specs.Log.{last-records, last-writes, Remaining};
+ghost use Rattle.records.specs.State.{view};
+ghost use Rattle.records.specs.Log.{last-records, last-writes, Remaining};
 ghost use Rattle.engine.specs.Count.{record-points};
 ghost use Rattle.engine.specs.Search.{Ready};
 

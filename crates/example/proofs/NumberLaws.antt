@@ -15,7 +15,7 @@ use Rattle.region.specs.declared.Answer.the-variants as answers
 use Rattle.region.proofs.AnswerLaws.{done-changed, refused-left, refusal-not-done}
 use Rattle.region.proofs.Booleans.{both, cond-when, cond-unless}
 use Rattle.writelog.proofs.WriteLaws.{passed}
-use Rattle.writelog.specs.declared.state.State.{State}
+use Rattle.records.specs.declared.state.State.{State}
 use Rattle.sheet.specs.Sheet.{well-formed, obeys}
 use Rattle.gate.specs.Opening.{open-number, Opens}
 use Rattle.gate.proofs.OpeningLaws.{open-good, open-broken}

@@ -21,13 +21,13 @@ use Rattle.replay.specs.AsyncSpec.{AsyncView, Write, write, readable, can-crash
 use Rattle.replay.specs.Choice.{points}
 use Rattle.sheet.specs.Sheet.{obeys}
 use Rattle.sheet.proofs.Laws.{obeyed-is-formed}
-use Rattle.writelog.specs.State.{log-records, together, writes-of, view, appended, emptied}
+use Rattle.records.specs.State.{log-records, together, writes-of, view, appended, emptied}
 use Rattle.writelog.specs.Flush.{Flushes}
-use Rattle.writelog.specs.declared.state.Record.{Record}
-use Rattle.writelog.specs.declared.state.State.{State}
-use Rattle.writelog.proofs.Soundness.{Sound, facts-sound}
+use Rattle.records.specs.declared.state.Record.{Record}
+use Rattle.records.specs.declared.state.State.{State}
+use Rattle.records.proofs.Soundness.{Sound, facts-sound}
 use Rattle.writelog.proofs.FlushLaws.{flush-sound}
-use Rattle.writelog.proofs.Views.{together-last, records-of-appended, sound-after-emptied}
+use Rattle.records.proofs.Views.{together-last, records-of-appended, sound-after-emptied}
 use Rattle.gate.specs.Judgement.{gate-points, Gates}
 use Rattle.gate.specs.Meaning.{Fits}
 use Rattle.gate.specs.declared.Verdict.{Verdict}

@@ -8,7 +8,7 @@ use lib.ListN.{length, set}
 use Rattle.region.specs.Limits.{image-limit, writes-limit, log-limit}
 use Rattle.region.specs.Answer.{unless}
 use Rattle.sheet.specs.Sheet.{obeys}
-use Rattle.writelog.specs.declared.state.State.{State}
+use Rattle.records.specs.declared.state.State.{State}
 use Rattle.example.specs.Valid.{valid}
 use Rattle.example.specs.Run.{rounds-limit, if-any-round, last-writes}
 use Rattle.example.specs.declared.RunAnswer.{RunAnswer}

@@ -17,12 +17,12 @@ use Rattle.region.proofs.AnswerLaws.{answers-by-number, done-changed, not-done,
 use Rattle.replay.specs.AsyncSpec.{AsyncView, write, readable, can-crash}
 use Rattle.cuts.proofs.Always.{cut-of-nothing}
 use Rattle.sheet.specs.Sheet.{obeys}
-use Rattle.writelog.specs.State.{log-records, together, view, appended, emptied}
+use Rattle.records.specs.State.{log-records, together, view, appended, emptied}
 use Rattle.writelog.specs.Write.{write-number}
-use Rattle.writelog.specs.declared.state.State.{State}
-use Rattle.writelog.proofs.Soundness.{Sound, sound-facts}
-use Rattle.writelog.proofs.WriteLaws.{Room, write-sound}
-use Rattle.writelog.proofs.Views.{view-of-recorded, sound-after-recorded, sized-of-appended, view-of-emptied, sound-after-emptied}
+use Rattle.records.specs.declared.state.State.{State}
+use Rattle.records.proofs.Soundness.{Sound, sound-facts, Room}
+use Rattle.writelog.proofs.WriteLaws.{write-sound}
+use Rattle.records.proofs.Views.{view-of-recorded, sound-after-recorded, sized-of-appended, view-of-emptied, sound-after-emptied}
 use Rattle.gate.specs.declared.Verdict.{Verdict}
 use Rattle.gate.specs.declared.Verdict.the-variants.{Admitted, Denied, Refused}
 use Rattle.gate.specs.Opening.{fresh, Opens}

@@ -17,9 +17,9 @@ use Rattle.region.proofs.AnswerLaws.{done-changed, not-done, refusal-not-done}
 use Rattle.region.proofs.Booleans.{cond-when, cond-unless, and-unless, both, both-true}
 use Rattle.verdict.specs.Search as search
 use Rattle.sheet.specs.Sheet.{well-formed}
-use Rattle.writelog.specs.State.{log-records, together, view, sound, appended}
+use Rattle.records.specs.State.{log-records, together, view, sound, appended}
 use Rattle.writelog.specs.Write.{room-number}
-use Rattle.writelog.specs.declared.state.State.{State}
+use Rattle.records.specs.declared.state.State.{State}
 use Rattle.writelog.proofs.WriteLaws.{room-done, room-there}
 use Rattle.engine.specs.declared.search.Outcome.{Outcome}
 use Rattle.engine.specs.declared.search.Outcome.the-variants.{AllGood, FirstBad}

@@ -19,8 +19,8 @@ use Rattle.verdict.specs.Gate.{gate-verdict, judges-images}
 use Rattle.verdict.proofs.Gate.{gate-judges-images}
 use Rattle.sheet.specs.Sheet.{obeys}
 use Rattle.sheet.proofs.Laws.{before-unseen}
-use Rattle.writelog.specs.State.{log-records, together, view, appended}
-use Rattle.writelog.specs.declared.state.State.{State}
+use Rattle.records.specs.State.{log-records, together, view, appended}
+use Rattle.records.specs.declared.state.State.{State}
 use Rattle.engine.specs.Search.{sheet-verdict, sheet-image}
 use Rattle.gate.specs.declared.Verdict.{Verdict}
 use Rattle.gate.specs.declared.Verdict.the-variants.{Admitted, Denied, Refused}

@@ -15,7 +15,7 @@ use Rattle.region.proofs.AnswerLaws.{done-changed, refused-left}
 use Rattle.region.proofs.Booleans.{cond-when, cond-unless, and-unless, both, both-true}
 use Rattle.sheet.specs.Sheet.{well-formed, obeys}
 use Rattle.sheet.proofs.Laws.{obeyed-is-formed}
-use Rattle.writelog.specs.declared.state.State.{State}
+use Rattle.records.specs.declared.state.State.{State}
 use Rattle.writelog.proofs.WriteLaws.{passed}
 use Rattle.gate.specs.Meaning.{Openable}
 use Rattle.gate.specs.Opening.{fresh, open-number, Opens}

@@ -14,9 +14,9 @@ use Rattle.replay.specs.AsyncSpec.{AsyncView, write}
 use Rattle.cuts.specs.Number.{choice-points}
 use Rattle.verdict.specs.Search as search
 use Rattle.sheet.specs.Sheet.{well-formed}
-use Rattle.writelog.specs.State.{log-records, together, view, sound, appended}
+use Rattle.records.specs.State.{log-records, together, view, sound, appended}
 use Rattle.writelog.specs.Write.{room-number}
-use Rattle.writelog.specs.declared.state.State.{State}
+use Rattle.records.specs.declared.state.State.{State}
 use Rattle.engine.specs.Search.{sheet-verdict, sheet-image}
 use Rattle.gate.specs.declared.Verdict.{Verdict}
 use Rattle.gate.specs.declared.Verdict.the-variants.{Admitted, Denied, Refused}

@@ -13,8 +13,8 @@ use Rattle.cuts.specs.Number.{choice-image}
 use Rattle.verdict.specs.Search.{least-bad}
 use Rattle.verdict.specs.Gate.{gate-numbers}
 use Rattle.sheet.specs.Sheet.{well-formed, obeys}
-use Rattle.writelog.specs.State.{log-records, together, view, sound}
-use Rattle.writelog.specs.declared.state.State.{State}
+use Rattle.records.specs.State.{log-records, together, view, sound}
+use Rattle.records.specs.declared.state.State.{State}
 use Rattle.gate.specs.declared.Verdict.{Verdict}
 use Rattle.gate.specs.declared.Verdict.the-variants.{Admitted, Denied}
 use Rattle.gate.specs.Judgement.{gate-points}

@@ -10,7 +10,7 @@ use Rattle.region.specs.Limits.{image-limit, writes-limit, log-limit}
 use Rattle.region.specs.Answer.{answer-number, unless, if-done}
 use Rattle.region.specs.declared.Answer.{Answer}
 use Rattle.sheet.specs.Sheet.{well-formed, obeys}
-use Rattle.writelog.specs.declared.state.State.{State}
+use Rattle.records.specs.declared.state.State.{State}
 
 abbrev pub fresh : State
 fresh = record { count = 0; records = replicate writes-limit (record { addr = 0; len = 0 }) }

@@ -1,10 +1,10 @@
 // The gate.
 use crate::Verdict;
 use crate::judge::decide;
+use records::state::Outstanding;
+use records::state::State;
+use records::state::checked;
 use region::Refusal;
-use writelog::state::Outstanding;
-use writelog::state::State;
-use writelog::state::checked;
 use writelog::write::recorded;
 ghost use Rattle.gate.specs.Judgement.{Gates};
 

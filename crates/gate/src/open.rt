@@ -1,12 +1,12 @@
 // Opening.
+use records::state::Record;
+use records::state::State;
 use region::Answer;
 use region::IMAGE_LIMIT;
 use region::LOG_LIMIT;
 use region::Refusal;
 use region::WRITES_LIMIT;
 use sheet::Judged;
-use writelog::state::Record;
-use writelog::state::State;
 ghost use mathlib.Core.Path.{_≡_};
 ghost use Rattle.gate.specs.Opening.{fresh, Opens};
 

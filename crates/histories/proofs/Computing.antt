@@ -7,7 +7,7 @@ use Rattle.replay.specs.Rows.{row-at, rows-at, set-bits, row-filled, rows-fille
 use Rattle.replay.specs.Kept.{kept, kept-of}
 use Rattle.verdict.specs.Search.{verdict, verdict-from}
 use Rattle.sheet.specs.Sheet.{clause-holds, empty-holds, join, holds, field, read-field, read-tagged, read-entry, read-members, read-rest, read-rule, read-edition, filling, read-filling, read-whole, read-sheet, well-formed, obeys}
-use Rattle.writelog.specs.State.{together, writes-of, records-inside, sound}
+use Rattle.records.specs.State.{together, writes-of, records-inside, sound}
 use Rattle.writelog.specs.Write.{write-number}
 use Rattle.writelog.specs.Flush.{flush-number}
 use Rattle.writelog.specs.Cut.{cut-number}

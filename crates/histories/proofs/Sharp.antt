@@ -12,11 +12,11 @@ use Rattle.region.specs.declared.Refusal.the-variants.{BrokenImage}
 use Rattle.replay.specs.AsyncSpec.{AsyncView, flush-selective, can-crash}
 use Rattle.cuts.proofs.Shape.{shaped-rows-crash}
 use Rattle.cuts.proofs.Tables.{rows-at-shape}
-use Rattle.writelog.specs.State.{appended, emptied}
+use Rattle.records.specs.State.{appended, emptied}
 use Rattle.writelog.specs.Write.{Writes}
 use Rattle.writelog.specs.Flush.{Flushes}
 use Rattle.writelog.specs.Cut.{Cuts}
-use Rattle.writelog.specs.declared.state.State.{State}
+use Rattle.records.specs.declared.state.State.{State}
 use Rattle.writelog.specs.declared.cut.CutAnswer.the-variants.{Kept}
 use Rattle.gate.specs.Opening.{fresh, Opens}
 use Rattle.gate.specs.Judgement.{Judges, Gates}

@@ -8,10 +8,10 @@ use lib.ListN.{replicate, set}
 use Rattle.region.specs.Limits.{const-persistence-chunk-size, writes-limit, log-limit}
 use Rattle.region.specs.declared.Answer.the-variants.{Done, Refused}
 use Rattle.region.specs.declared.Refusal.the-variants.{OutOfRange}
-use Rattle.writelog.specs.State.{appended, emptied}
+use Rattle.records.specs.State.{appended, emptied}
 use Rattle.writelog.specs.Write.{Writes}
 use Rattle.writelog.specs.Cut.{Cuts}
-use Rattle.writelog.specs.declared.state.State.{State}
+use Rattle.records.specs.declared.state.State.{State}
 use Rattle.writelog.specs.declared.cut.CutAnswer.the-variants.{Kept}
 use Rattle.gate.specs.Opening.{fresh, Opens}
 use Rattle.gate.specs.Judgement.{Judges, Gates}

@@ -3,7 +3,7 @@ use Prim.Native.Nat.{ℕ}
 use mathlib.Core.Path.{_≡_}
 use mathlib.Core.List.{List}
 use Rattle.region.specs.declared.Answer.{Answer}
-use Rattle.writelog.specs.declared.state.State.{State}
+use Rattle.records.specs.declared.state.State.{State}
 use Rattle.gate.specs.declared.Verdict.{Verdict}
 use Rattle.gate.specs.Opening.{Opens}
 use Rattle.gate.specs.Judgement.{verdict-report, Judges, Gates}

@@ -9,7 +9,7 @@ use Rattle.writelog.specs.Write.{Writes}
 use Rattle.writelog.specs.Read.{Fills, HandsBack}
 use Rattle.writelog.specs.Flush.{Flushes}
 use Rattle.writelog.specs.Cut.{Cuts, cut-report}
-use Rattle.writelog.specs.declared.state.State.{State}
+use Rattle.records.specs.declared.state.State.{State}
 use Rattle.writelog.specs.declared.cut.CutAnswer.{CutAnswer}
 use Rattle.writelog.specs.declared.cut.CutAnswer.the-variants.{Kept, Refused}
 use Rattle.pins.proofs.Scheme.{same, Settles, value-of, refusals-by-number, refusal-is-not-done}

@@ -11,9 +11,9 @@ use Rattle.region.specs.Answer.{if-done}
 use Rattle.region.specs.Pmemspec.{update-bytes}
 use Rattle.region.proofs.AnswerLaws.{done-changed, not-done}
 use Rattle.replay.specs.AsyncSpec.{can-crash}
-use Rattle.writelog.specs.State.{log-records, together, appended, emptied}
-use Rattle.writelog.specs.declared.state.State.{State}
-use Rattle.writelog.proofs.Views.{view-of-emptied}
+use Rattle.records.specs.State.{log-records, together, appended, emptied}
+use Rattle.records.specs.declared.state.State.{State}
+use Rattle.records.proofs.Views.{view-of-emptied}
 use Rattle.gate.specs.Judgement.{Judges}
 use Rattle.gate.specs.declared.Verdict.the-variants.{Admitted}
 use Rattle.gate.proofs.Gives.{Holds, empty-holds, judged-holds}

@@ -20,11 +20,11 @@ use Rattle.cuts.proofs.Flush.{flush-leaves-the-read-image}
 use Rattle.cuts.proofs.Nothing.{cut-that-keeps-nothing}
 use Rattle.cuts.proofs.Shape.{shaped-rows-crash}
 use Rattle.cuts.proofs.Tables.{rows-at-shape}
-use Rattle.writelog.specs.State.{emptied}
+use Rattle.records.specs.State.{emptied}
 use Rattle.writelog.specs.Write.{Writes}
 use Rattle.writelog.specs.Flush.{Flushes}
 use Rattle.writelog.specs.Cut.{chunks, Cuts}
-use Rattle.writelog.specs.declared.state.State.{State}
+use Rattle.records.specs.declared.state.State.{State}
 use Rattle.writelog.specs.declared.cut.CutAnswer.{CutAnswer}
 use Rattle.writelog.specs.declared.cut.CutAnswer.the-variants as cut-answer
 use Rattle.gate.specs.Opening.{fresh, Opens}
@@ -36,7 +36,7 @@ use Rattle.gate.proofs.Gives.{opens-means, opened-fresh}
 use Rattle.tape.specs.Write.{TapeWrites}
 use Rattle.tape.specs.Flush.{TapeFlushes}
 use Rattle.tape.specs.Cut.{TapeCuts}
-use Rattle.writelog.proofs.Views.{writes-counted}
+use Rattle.records.proofs.Views.{writes-counted}
 use Rattle.tape.proofs.NumberLaws.{ending-done}
 use Rattle.tape.proofs.PredictLaws.{predicted-cut}
 use Rattle.session.specs.History.{Event, nothing, written, flushed, cut-by, reopened, if-answered, if-admitted, if-cut, rows-there, none-kept, happen, settled}

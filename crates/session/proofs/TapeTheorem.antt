@@ -9,8 +9,8 @@ use Rattle.region.specs.declared.Answer.{Answer}
 use Rattle.region.specs.declared.Answer.the-variants as answer
 use Rattle.region.proofs.AnswerLaws.{refusal-not-done}
 use Rattle.replay.specs.AsyncSpec.{AsyncView, write}
-use Rattle.writelog.specs.State.{writes-of}
-use Rattle.writelog.specs.declared.state.State.{State}
+use Rattle.records.specs.State.{writes-of}
+use Rattle.records.specs.declared.state.State.{State}
 use Rattle.writelog.specs.declared.cut.CutAnswer.{CutAnswer}
 use Rattle.writelog.specs.declared.cut.CutAnswer.the-variants as cut-answer
 use Rattle.gate.specs.Opening.{Opens}

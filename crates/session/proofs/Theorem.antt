@@ -11,8 +11,8 @@ use Rattle.region.specs.declared.Answer.{Answer}
 use Rattle.region.specs.declared.Answer.the-variants.{Done}
 use Rattle.replay.specs.AsyncSpec.{AsyncView, can-crash}
 use Rattle.cuts.proofs.Always.{cut-could-leave-the-last-flush}
-use Rattle.writelog.specs.declared.state.State.{State}
-use Rattle.writelog.proofs.Views.{view-of-emptied}
+use Rattle.records.specs.declared.state.State.{State}
+use Rattle.records.proofs.Views.{view-of-emptied}
 use Rattle.gate.specs.Opening.{fresh, Opens}
 use Rattle.gate.proofs.Gives.{opens-means, opened-fresh, opened-holds}
 use Rattle.session.specs.History.{History, opening, happen, replay}

@@ -8,12 +8,12 @@ use Rattle.region.specs.declared.Answer.{Answer}
 use Rattle.region.specs.declared.Answer.the-variants.{Done, Refused}
 use Rattle.region.specs.declared.Refusal.{Refusal}
 use Rattle.replay.specs.AsyncSpec.{AsyncView}
-use Rattle.writelog.specs.State.{view}
+use Rattle.records.specs.State.{view}
 use Rattle.writelog.specs.Write.{Writes}
 use Rattle.writelog.specs.Read.{Fills, HandsBack}
 use Rattle.writelog.specs.Flush.{Flushes}
 use Rattle.writelog.specs.Cut.{Cuts}
-use Rattle.writelog.specs.declared.state.State.{State}
+use Rattle.records.specs.declared.state.State.{State}
 use Rattle.writelog.specs.declared.cut.CutAnswer.{CutAnswer}
 use Rattle.gate.specs.Opening.{Opens}
 use Rattle.gate.specs.Judgement.{Judges, Gates}

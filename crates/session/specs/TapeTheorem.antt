@@ -9,7 +9,7 @@ use Rattle.region.specs.Limits.{const-persistence-chunk-size}
 use Rattle.region.specs.declared.Answer.the-variants.{Done}
 use Rattle.replay.specs.AsyncSpec.{AsyncView, write}
 use Rattle.cuts.specs.Bits.{chunks}
-use Rattle.writelog.specs.declared.state.State.{State}
+use Rattle.records.specs.declared.state.State.{State}
 use Rattle.writelog.specs.declared.cut.CutAnswer.the-variants.{Kept}
 use Rattle.tape.specs.Epoch.{row-place}
 use Rattle.tape.specs.Foretold.{predicted-image}

@@ -10,7 +10,7 @@ use Rattle.region.specs.declared.Answer.{Answer}
 use Rattle.region.specs.declared.Answer.the-variants.{Done}
 use Rattle.replay.specs.AsyncSpec.{committed, can-crash}
 use Rattle.sheet.specs.Sheet.{obeys}
-use Rattle.writelog.specs.declared.state.State.{State}
+use Rattle.records.specs.declared.state.State.{State}
 use Rattle.gate.specs.Opening.{Opens}
 use Rattle.session.specs.History.{History, replay}
 use Rattle.session.specs.Run.{Desk, seen}

@@ -7,7 +7,7 @@ use lib.ListN.{length, getD}
 use borrow.Author.Tests.{eq-eqb, ne-eqb}
 use Rattle.region.specs.Answer.{if-done}
 use Rattle.region.proofs.Booleans.{cond-when, cond-unless}
-use Rattle.writelog.specs.declared.state.State.{State}
+use Rattle.records.specs.declared.state.State.{State}
 use Rattle.skaldrift.specs.Words.{state-words, state-of, words-of, of-state}
 use Rattle.skaldrift.proofs.WordLaws.{same-words}
 

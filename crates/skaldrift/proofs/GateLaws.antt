@@ -6,8 +6,8 @@ use lib.ListN.{length, replicate}
 use Rattle.region.specs.Pmemspec.{update-bytes}
 use Rattle.region.specs.Answer.{Report, answer-number}
 use Rattle.region.specs.declared.Answer.{Answer}
-use Rattle.writelog.specs.State.{log-records, together, appended}
-use Rattle.writelog.specs.declared.state.State.{State}
+use Rattle.records.specs.State.{log-records, together, appended}
+use Rattle.records.specs.declared.state.State.{State}
 use Rattle.gate.specs.Opening.{fresh, open-number, Opens}
 use Rattle.gate.specs.Judgement.{verdict-report, judge-report, judge-number, judge-work, Judges, Gates}
 use Rattle.gate.specs.declared.Verdict.{Verdict}

@@ -7,12 +7,12 @@ use Rattle.region.specs.Pmemspec.{update-bytes}
 use Rattle.region.specs.Answer.{Report, answer-number}
 use Rattle.region.specs.declared.Answer.{Answer}
 use Rattle.replay.specs.AsyncSpec.{readable}
-use Rattle.writelog.specs.State.{view, log-records, together, appended, emptied}
+use Rattle.records.specs.State.{view, log-records, together, appended, emptied}
 use Rattle.writelog.specs.Write.{write-number, Writes}
 use Rattle.writelog.specs.Read.{read-number, Fills}
 use Rattle.writelog.specs.Flush.{flush-number, Flushes}
 use Rattle.writelog.specs.Cut.{cut-report, cut-number, cut-image, cut-kept, Cuts}
-use Rattle.writelog.specs.declared.state.State.{State}
+use Rattle.records.specs.declared.state.State.{State}
 use Rattle.writelog.specs.declared.cut.CutAnswer.{CutAnswer}
 use Rattle.skaldrift.specs.Words.{state-words, state-of, words-of, reported}
 use Rattle.skaldrift.specs.Log.{SkaldriftWrite, SkaldriftRead, SkaldriftFlush, SkaldriftCut}

@@ -7,8 +7,8 @@ use mathlib.Core.List.{List, [], _∷_, _++_}
 use lib.ListN.{length, getD, take, drop, set, length-set, length-drop}
 use lib.Seq.{take-suc, take-suc-set, take-all, getD-drop}
 use Rattle.region.specs.Limits.{writes-limit}
-use Rattle.writelog.specs.declared.state.Record.{Record}
-use Rattle.writelog.specs.declared.state.State.{State}
+use Rattle.records.specs.declared.state.Record.{Record}
+use Rattle.records.specs.declared.state.State.{State}
 use Rattle.skaldrift.specs.Words.{state-words, records-of, record-words, state-of, words-of}
 
 -- what stands where there is no record

@@ -6,7 +6,7 @@ use mathlib.Core.List.{List}
 use lib.ListN.{length}
 use Rattle.region.specs.Pmemspec.{update-bytes}
 use Rattle.region.specs.Answer.{if-done}
-use Rattle.writelog.specs.State.{log-records, together, appended}
+use Rattle.records.specs.State.{log-records, together, appended}
 use Rattle.gate.specs.Opening.{fresh, open-number}
 use Rattle.gate.specs.Judgement.{judge-report, judge-number, judge-work}
 use Rattle.skaldrift.specs.Words.{state-of, words-of, of-state, reported}

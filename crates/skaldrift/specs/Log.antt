@@ -7,7 +7,7 @@ use lib.ListN.{length}
 use Rattle.region.specs.Pmemspec.{update-bytes}
 use Rattle.region.specs.Answer.{if-done}
 use Rattle.replay.specs.AsyncSpec.{readable}
-use Rattle.writelog.specs.State.{view, log-records, together, appended, emptied}
+use Rattle.records.specs.State.{view, log-records, together, appended, emptied}
 use Rattle.writelog.specs.Write.{write-number}
 use Rattle.writelog.specs.Read.{read-number}
 use Rattle.writelog.specs.Flush.{flush-number}

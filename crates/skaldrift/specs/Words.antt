@@ -6,8 +6,8 @@ use lib.Dec.{eqb}
 use lib.ListN.{length, getD, drop}
 use Rattle.region.specs.Limits.{writes-limit}
 use Rattle.region.specs.Answer.{Report, unless}
-use Rattle.writelog.specs.declared.state.Record.{Record}
-use Rattle.writelog.specs.declared.state.State.{State}
+use Rattle.records.specs.declared.state.Record.{Record}
+use Rattle.records.specs.declared.state.State.{State}
 
 abbrev pub state-words : ℕ
 state-words = 1 + 2 * writes-limit

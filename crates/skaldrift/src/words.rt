@@ -1,8 +1,8 @@
 // The state as words: the count, then address and length of each record. `loaded` and `stored` undo
 // each other on a state of the right length (proofs/WordLaws.antt).
+use records::state::Record;
+use records::state::State;
 use region::WRITES_LIMIT;
-use writelog::state::Record;
-use writelog::state::State;
 ghost use mathlib.Core.Path.{_≡_};
 ghost use lib.ListN.{length};
 ghost use Rattle.skaldrift.specs.Words.{state-words, state-of, words-of};

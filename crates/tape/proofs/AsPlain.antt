@@ -15,13 +15,13 @@ use Rattle.region.proofs.Booleans.{both-true}
 use Rattle.replay.specs.AsyncSpec.{readable, flush-selective}
 use Rattle.replay.specs.Kept.{kept}
 use Rattle.replay.specs.Rows.{row-bytes, rows-at, rows-filled, rows-right}
-use Rattle.writelog.specs.State.{view, appended, emptied}
+use Rattle.records.specs.State.{view, appended, emptied}
 use Rattle.writelog.specs.Write.{write-number, Writes}
 use Rattle.writelog.specs.Flush.{flush-number, Flushes}
 use Rattle.writelog.specs.Cut.{chunks, cut-number, cut-kept, cut-image, Cuts}
-use Rattle.writelog.specs.declared.state.State.{State}
+use Rattle.records.specs.declared.state.State.{State}
 use Rattle.writelog.specs.declared.cut.CutAnswer.{CutAnswer}
-use Rattle.writelog.proofs.Soundness.{facts-sound}
+use Rattle.records.proofs.Soundness.{facts-sound}
 use Rattle.writelog.proofs.FlushLaws.{flush-sound}
 use Rattle.writelog.proofs.CutLaws.{cut-good}
 use Rattle.tape.specs.Epoch.{epoch-rows}
@@ -31,7 +31,7 @@ use Rattle.tape.specs.Flush.{tape-flush-number, TapeFlushes}
 use Rattle.tape.specs.Cut.{tape-cut-number, tape-kept, TapeCuts}
 use Rattle.tape.proofs.NumberLaws.{plainly-done, ending-done}
 use Rattle.tape.proofs.PredictLaws.{predicted-cut}
-use Rattle.writelog.proofs.Views.{writes-counted}
+use Rattle.records.proofs.Views.{writes-counted}
 use Rattle.tape.proofs.RowsLaws.{rows-of-part, rows-filled-of-part, rows-before, rows-filled-before}
 
 -- the epoch's rows as a row table of its own

@@ -16,10 +16,10 @@ use Rattle.cuts.specs.Prophecy.{prophecy}
 use Rattle.cuts.specs.Shape.{has-shape}
 use Rattle.cuts.proofs.Packed.{bytes-of-append}
 use Rattle.cuts.proofs.Shape.{crash-rows-shaped}
-use Rattle.writelog.specs.State.{view, sound}
-use Rattle.writelog.specs.declared.state.State.{State}
-use Rattle.writelog.proofs.Soundness.{sound-facts}
-use Rattle.writelog.proofs.Views.{writes-counted}
+use Rattle.records.specs.State.{view, sound}
+use Rattle.records.specs.declared.state.State.{State}
+use Rattle.records.proofs.Soundness.{sound-facts}
+use Rattle.records.proofs.Views.{writes-counted}
 use Rattle.tape.specs.Epoch.{flush-foretold, epoch-rows, epoch-number}
 use Rattle.tape.specs.Foretold.{foretold, predicted-image}
 use Rattle.tape.specs.Ending.{predicted-now}

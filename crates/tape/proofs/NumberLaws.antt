@@ -13,18 +13,18 @@ use Rattle.region.specs.declared.Refusal.{Refusal}
 use Rattle.region.proofs.AnswerLaws.{done-changed, refused-left}
 use Rattle.region.proofs.Booleans.{cond-when, cond-unless, and-when, and-unless, both}
 use Rattle.replay.specs.AsyncSpec.{size-to-chunks}
-use Rattle.writelog.specs.State.{sound, appended}
+use Rattle.records.specs.State.{sound, appended}
 use Rattle.writelog.specs.Write.{room-number, write-number}
-use Rattle.writelog.specs.declared.state.State.{State}
-use Rattle.writelog.proofs.Soundness.{Sound, sound-facts}
-use Rattle.writelog.proofs.Walk.{all-remain}
-use Rattle.writelog.proofs.WriteLaws.{passed, Room, room-done, write-sound}
+use Rattle.records.specs.declared.state.State.{State}
+use Rattle.records.proofs.Soundness.{Sound, sound-facts, Room}
+use Rattle.records.proofs.Walk.{all-remain}
+use Rattle.writelog.proofs.WriteLaws.{passed, room-done, write-sound}
 use Rattle.tape.specs.Epoch.{flush-foretold, epoch-number}
 use Rattle.tape.specs.Predictable.{Predictable}
 use Rattle.tape.specs.Write.{or-else, tape-sound, tape-room-number, tape-write-number}
 use Rattle.tape.specs.Ending.{as-foretold, ending-number}
 use Rattle.tape.proofs.EpochLaws.{Epoch, epoch-facts}
-use Rattle.writelog.proofs.Views.{sound-of-appended}
+use Rattle.records.proofs.Views.{sound-of-appended}
 
 -- a number, or what comes after it
 go-on : {n : ℕ} (rest : ℕ) → n ≡ 0 → or-else n rest ≡ rest

@@ -8,14 +8,14 @@ use Rattle.region.specs.Limits.{const-persistence-chunk-size}
 use Rattle.region.proofs.Booleans.{cond-when, cond-unless}
 use Rattle.replay.specs.AsyncSpec.{Write, AsyncView, size-to-chunks, committed, readable, flush-writes, flush-writes-selective, flush-selective}
 use Rattle.replay.specs.Rows.{rows-at}
-use Rattle.writelog.specs.State.{view}
-use Rattle.writelog.specs.Log.{last-writes}
-use Rattle.writelog.specs.declared.state.State.{State}
-use Rattle.writelog.proofs.Walk.{all-writes}
+use Rattle.records.specs.State.{view}
+use Rattle.records.specs.Log.{last-writes}
+use Rattle.records.specs.declared.state.State.{State}
+use Rattle.records.proofs.Walk.{all-writes}
 use Rattle.tape.specs.Epoch.{flush-foretold, epoch-rows}
 use Rattle.tape.specs.Foretold.{predicted-image}
 use Rattle.tape.specs.Ending.{predicted-now}
-use Rattle.writelog.proofs.Views.{writes-counted}
+use Rattle.records.proofs.Views.{writes-counted}
 
 -- the two headers
 pub predicted-flush : (C : ℕ) (tape : List ℕ) (start : ℕ) (v : AsyncView) → flush-foretold tape start ≡ true → predicted-image C tape start v ≡ readable v

@@ -14,8 +14,8 @@ use Rattle.region.proofs.AnswerLaws.{not-done, done-changed}
 use Rattle.replay.specs.AsyncSpec.{AsyncView, flush, readable, write, can-crash-as}
 use Rattle.cuts.specs.Bits.{chunks}
 use Rattle.cuts.proofs.Flush.{flush-leaves-the-read-image}
-use Rattle.writelog.specs.State.{view, writes-of, appended, emptied}
-use Rattle.writelog.specs.declared.state.State.{State}
+use Rattle.records.specs.State.{view, writes-of, appended, emptied}
+use Rattle.records.specs.declared.state.State.{State}
 use Rattle.writelog.specs.declared.cut.CutAnswer.{CutAnswer}
 use Rattle.tape.specs.Epoch.{epoch-rows, row-place}
 use Rattle.tape.specs.Foretold.{foretold, predicted-image}
@@ -23,7 +23,7 @@ use Rattle.tape.specs.Write.{tape-write-number, log-with, predicted-with
 use Rattle.tape.specs.Ending.{next-start, predicted-now}
 use Rattle.tape.specs.Flush.{tape-flush-number, TapeFlushes}
 use Rattle.tape.specs.Cut.{tape-cut-number, TapeCuts}
-use Rattle.writelog.proofs.Views.{view-of-recorded, writes-counted}
+use Rattle.records.proofs.Views.{view-of-recorded, writes-counted}
 use Rattle.tape.proofs.NumberLaws.{tape-write-done, ending-done}
 use Rattle.tape.proofs.Foretells.{predicted-of-nothing, foretold-of-a-write, foretold-flush-is-predicted, foretold-cut-is-a-crash}
 use Rattle.tape.proofs.PredictLaws.{predicted-flush}

@@ -7,9 +7,9 @@ use lib.ListN.{length}
 use Rattle.region.specs.Limits.{const-persistence-chunk-size}
 use Rattle.region.specs.Answer.{if-done}
 use Rattle.replay.specs.Kept.{kept}
-use Rattle.writelog.specs.State.{view, emptied}
+use Rattle.records.specs.State.{view, emptied}
 use Rattle.writelog.specs.Cut.{cut-report, chunks}
-use Rattle.writelog.specs.declared.state.State.{State}
+use Rattle.records.specs.declared.state.State.{State}
 use Rattle.writelog.specs.declared.cut.CutAnswer.{CutAnswer}
 use Rattle.tape.specs.Epoch.{epoch-rows}
 use Rattle.tape.specs.Ending.{ending-number, next-start, predicted-now}

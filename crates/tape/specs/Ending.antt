@@ -5,8 +5,8 @@ use mathlib.Core.List.{List}
 use Rattle.region.specs.Limits.{const-persistence-chunk-size}
 use Rattle.region.specs.Answer.{unless}
 use Rattle.replay.specs.AsyncSpec.{size-to-chunks}
-use Rattle.writelog.specs.State.{view}
-use Rattle.writelog.specs.declared.state.State.{State}
+use Rattle.records.specs.State.{view}
+use Rattle.records.specs.declared.state.State.{State}
 use Rattle.tape.specs.Epoch.{flush-foretold, row-place, epoch-number}
 use Rattle.tape.specs.Foretold.{predicted-image}
 use Rattle.tape.specs.Write.{or-else, tape-sound}

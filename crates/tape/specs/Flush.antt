@@ -7,8 +7,8 @@ use lib.ListN.{length}
 use Rattle.region.specs.Answer.{answer-number, if-done}
 use Rattle.region.specs.declared.Answer.{Answer}
 use Rattle.replay.specs.AsyncSpec.{readable}
-use Rattle.writelog.specs.State.{view, emptied}
-use Rattle.writelog.specs.declared.state.State.{State}
+use Rattle.records.specs.State.{view, emptied}
+use Rattle.records.specs.declared.state.State.{State}
 use Rattle.tape.specs.Ending.{ending-number, next-start}
 
 abbrev pub tape-flush-number : List ℕ → State → List ℕ → List ℕ → ℕ → List ℕ → ℕ

@@ -5,8 +5,8 @@ use mathlib.Core.List.{List}
 use lib.ListN.{length}
 use Rattle.region.specs.Limits.{image-limit, const-persistence-chunk-size}
 use Rattle.replay.specs.AsyncSpec.{size-to-chunks}
-use Rattle.writelog.specs.Log.{Remaining}
-use Rattle.writelog.specs.declared.state.State.{State}
+use Rattle.records.specs.Log.{Remaining}
+use Rattle.records.specs.declared.state.State.{State}
 use Rattle.tape.specs.Epoch.{row-place}
 
 pub record Predictable (L : ℕ) (st : State) (log-length : ℕ) (tape : List ℕ) (start predicted-length : ℕ) : Type 0 where

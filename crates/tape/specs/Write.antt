@@ -10,9 +10,9 @@ use Rattle.region.specs.Pmemspec.{update-bytes}
 use Rattle.region.specs.Answer.{answer-number, unless, if-done}
 use Rattle.region.specs.declared.Answer.{Answer}
 use Rattle.replay.specs.AsyncSpec.{size-to-chunks}
-use Rattle.writelog.specs.State.{view, log-records, together, sound, appended}
+use Rattle.records.specs.State.{view, log-records, together, sound, appended}
 use Rattle.writelog.specs.Write.{room-number}
-use Rattle.writelog.specs.declared.state.State.{State}
+use Rattle.records.specs.declared.state.State.{State}
 use Rattle.tape.specs.Epoch.{epoch-number}
 use Rattle.tape.specs.Foretold.{predicted-image}
 

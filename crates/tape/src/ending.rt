@@ -2,14 +2,14 @@
 use crate::epoch::epoch;
 use crate::epoch::flush_foretold;
 use crate::predict::predict;
+use records::state::Outstanding;
+use records::state::State;
+use records::state::checked;
 use region::Answer;
 use region::Refusal;
 use region::chunks::size_to_chunks;
 use replay::lay::lay;
 use replay::rows::row_bytes;
-use writelog::state::Outstanding;
-use writelog::state::State;
-use writelog::state::checked;
 ghost use mathlib.Core.Path.{_≡_};
 ghost use lib.ListN.{length};
 ghost use Rattle.region.specs.Answer.{answer-number};

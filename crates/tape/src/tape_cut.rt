@@ -1,11 +1,11 @@
 // The cut by tape.
 use crate::ending::ended;
 use crate::ending::ending;
+use records::log::kept;
+use records::state::State;
 use region::Answer;
 use writelog::cut::CutAnswer;
 use writelog::flush::emptied;
-use writelog::log::kept;
-use writelog::state::State;
 ghost use Rattle.tape.specs.Cut.{TapeCuts};
 
 pub struct AfterTapeCut {

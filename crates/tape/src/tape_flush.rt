@@ -1,9 +1,9 @@
 // The flush by tape.
 use crate::ending::ended;
 use crate::ending::ending;
+use records::state::State;
 use region::Answer;
 use writelog::flush::emptied;
-use writelog::state::State;
 ghost use Rattle.tape.specs.Flush.{TapeFlushes};
 
 pub struct TapeFlushed {

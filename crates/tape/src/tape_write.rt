@@ -1,11 +1,11 @@
 // The write by tape.
 use crate::epoch::epoch;
 use crate::predict::predict;
+use records::state::Outstanding;
+use records::state::State;
+use records::state::checked;
 use region::Answer;
 use region::Refusal;
-use writelog::state::Outstanding;
-use writelog::state::State;
-use writelog::state::checked;
 use writelog::write::Written;
 use writelog::write::recorded;
 use writelog::write::room;
@@ -13,7 +13,7 @@ ghost use mathlib.Core.Path.{_≡_};
 ghost use Prim.Native.Nat.{_≤_};
 ghost use Rattle.region.specs.Answer.{answer-number};
 ghost use Rattle.region.specs.Limits.{image-limit, log-limit};
-ghost use Rattle.writelog.specs.State.{log-records, together};
+ghost use Rattle.records.specs.State.{log-records, together};
 ghost use Rattle.tape.specs.Write.{tape-room-number, TapeWrites};
 
 // Is there room for a write of `len` bytes, and a right row for it on the tape? Document 01's 2, 3,

@@ -8,9 +8,9 @@ use Rattle.region.specs.Pmemspec.{update-bytes, extract-bytes, size-to-chunks}
 use Rattle.replay.specs.AsyncSpec.{readable}
 use Rattle.cuts.specs.Number.{choice-image, choice-points}
 use Rattle.region.specs.Answer.{Report}
-use Rattle.writelog.specs.State.{view, appended, emptied}
+use Rattle.records.specs.State.{view, appended, emptied}
 use Rattle.writelog.specs.Cut.{cut-image, cut-kept}
-use Rattle.writelog.specs.declared.state.State.{State}
+use Rattle.records.specs.declared.state.State.{State}
 use Rattle.gate.specs.Judgement.{judge-report}
 use Rattle.tape.specs.Write.{tape-write-number, predicted-with}
 use Rattle.tape.specs.Ending.{predicted-now, next-start}

@@ -8,8 +8,8 @@ use gate::gate::gate;
 use gate::judge::judge;
 use gate::open::fresh;
 use gate::open::open;
+use records::state::State;
 use region::numbers::answer_number;
-use writelog::state::State;
 
 // Two groups of 63 and 56 clauses and two empty ones, and six filling bits: 512 bytes. Every byte is
 // allowed, and one of bytes 0 to 55 has its address for its value.

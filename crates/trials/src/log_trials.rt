@@ -6,13 +6,13 @@ use crate::print::name;
 use crate::print::number;
 use crate::print::seen;
 use gate::open::fresh;
+use records::state::Record;
+use records::state::State;
 use region::numbers::answer_number;
 use writelog::cut::cut;
 use writelog::flush::flush;
 use writelog::read::read;
 use writelog::read::read_number;
-use writelog::state::Record;
-use writelog::state::State;
 use writelog::write::write;
 
 // 11 22 33 44 at 6, then AA BB at 7, over 16 zeros.

@@ -5,11 +5,11 @@ use crate::print::name;
 use crate::print::number;
 use crate::print::seen;
 use gate::open::fresh;
+use records::state::State;
 use region::numbers::answer_number;
 use tape::tape_cut::tape_cut;
 use tape::tape_flush::tape_flush;
 use tape::tape_write::tape_write;
-use writelog::state::State;
 
 // A write of A at 6 and of B at 7 by tape, then a flush, a cut and one write more, whatever the
 // tape foretells.

@@ -9,9 +9,9 @@ use Rattle.region.specs.declared.Refusal.{Refusal}
 use Rattle.region.proofs.AnswerLaws.{done-changed, refused-left}
 use Rattle.region.proofs.Booleans.{cond-when, cond-unless}
 use Rattle.replay.specs.Rows.{rows-right}
-use Rattle.writelog.specs.State.{sound, emptied}
+use Rattle.records.specs.State.{sound, emptied}
 use Rattle.writelog.specs.Cut.{chunks, cut-number, cut-image, cut-kept, Cuts}
-use Rattle.writelog.specs.declared.state.State.{State}
+use Rattle.records.specs.declared.state.State.{State}
 use Rattle.writelog.specs.declared.cut.CutAnswer.the-variants.{Kept, Refused}
 
 module _ (image : List ℕ) (st : State) (log table : List ℕ) where

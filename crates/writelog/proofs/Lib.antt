@@ -1,14 +1,5 @@
--- The laws of `writelog`'s definitions. `Records` takes the records of a log one at a time; `Soundness` takes the test of refusal 1 apart and
--- puts it together. `Branch`, `RecordRow` and `LentRecords` are what the walks over a lent list of records share.
-pub mod Records
-pub mod Soundness
-pub mod Views
-pub mod Walk
+-- Which test gives a call its number, and the promise of a done call and of a refused one.
 pub mod WriteLaws
 pub mod ReadLaws
 pub mod FlushLaws
-pub mod KeptLaws
 pub mod CutLaws
-pub mod Branch
-pub mod RecordRow
-pub mod LentRecords

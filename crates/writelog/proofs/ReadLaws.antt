@@ -6,9 +6,9 @@ use lib.Dec.{leb, eqb}
 use borrow.Author.Tests.{eq-eqb, ne-eqb, eqb-true, leb-true}
 use Rattle.region.specs.Answer.{unless}
 use Rattle.region.proofs.Booleans.{cond-when, cond-unless, and-unless, both, both-true}
-use Rattle.writelog.specs.State.{sound}
+use Rattle.records.specs.State.{sound}
 use Rattle.writelog.specs.Read.{asked-number}
-use Rattle.writelog.specs.declared.state.State.{State}
+use Rattle.records.specs.declared.state.State.{State}
 use Rattle.writelog.proofs.WriteLaws.{passed}
 
 module _ (L : ℕ) (st : State) (log-length work-length addr len : ℕ) where

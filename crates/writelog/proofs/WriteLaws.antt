@@ -15,9 +15,10 @@ use Rattle.region.specs.declared.Answer.{Answer}
 use Rattle.region.specs.declared.Answer.the-variants.{Done, Refused}
 use Rattle.region.proofs.AnswerLaws.{done-changed, refused-left}
 use Rattle.region.proofs.Booleans.{cond-when, cond-unless}
-use Rattle.writelog.specs.State.{log-records, together, sound, appended}
+use Rattle.records.specs.State.{log-records, together, sound, appended}
+use Rattle.records.proofs.Soundness.{Room}
 use Rattle.writelog.specs.Write.{room-number, write-number, Writes}
-use Rattle.writelog.specs.declared.state.State.{State}
+use Rattle.records.specs.declared.state.State.{State}
 
 -- a test that was passed, where its refusal has a number above 0
 pub passed : (good : Bool) (why rest : ℕ) → unless good (suc why) rest ≡ 0 → (good ≡ true) × (rest ≡ 0)
@@ -48,13 +49,7 @@ module _ (L : ℕ) (st : State) (addr n : ℕ) where
       pub room-there : together (log-records st) + n ≤ log-limit → room-number L st addr n ≡ 0
       room-there h = first-two ∙ cond-when (leb (together (log-records st) + n) log-limit) 0 4 (le-leb (together (log-records st) + n) log-limit h)
 
-  -- what it means that there is room
-  pub record Room : Type 0 where
-    pub lies : addr + n ≤ L
-    pub few : st .count < writes-limit
-    pub fits : together (log-records st) + n ≤ log-limit
-
-  pub room-done : room-number L st addr n ≡ 0 → Room
+  pub room-done : room-number L st addr n ≡ 0 → Room L st addr n
   room-done e =
       let a = passed (leb (addr + n) L) 1 full e in
       let b = passed (ltb (st .count) writes-limit) 2 many (a .1) in

@@ -9,8 +9,8 @@ use Rattle.region.specs.Answer.{Report, refusal-number, unless, if-done}
 use Rattle.replay.specs.AsyncSpec.{size-to-chunks, flush-selective}
 use Rattle.replay.specs.Rows.{rows-right, rows-at}
 use Rattle.replay.specs.Kept.{kept}
-use Rattle.writelog.specs.State.{view, sound, emptied}
-use Rattle.writelog.specs.declared.state.State.{State}
+use Rattle.records.specs.State.{view, sound, emptied}
+use Rattle.records.specs.declared.state.State.{State}
 use Rattle.writelog.specs.declared.cut.CutAnswer.{CutAnswer}
 use Rattle.writelog.specs.declared.cut.CutAnswer.the-variants.{Kept, Refused}
 

@@ -6,8 +6,8 @@ use lib.ListN.{length}
 use Rattle.region.specs.Answer.{answer-number, unless, if-done}
 use Rattle.region.specs.declared.Answer.{Answer}
 use Rattle.replay.specs.AsyncSpec.{readable}
-use Rattle.writelog.specs.State.{view, sound, emptied}
-use Rattle.writelog.specs.declared.state.State.{State}
+use Rattle.records.specs.State.{view, sound, emptied}
+use Rattle.records.specs.declared.state.State.{State}
 
 unfoldable pub flush-number : List ℕ → State → List ℕ → ℕ
 flush-number image st log = unless (sound (length image) st (length log)) 1 0

@@ -11,8 +11,8 @@ use Rattle.region.specs.Pmemspec.{extract-bytes}
 use Rattle.region.specs.Answer.{answer-number, unless, if-done}
 use Rattle.region.specs.declared.Answer.{Answer}
 use Rattle.replay.specs.AsyncSpec.{readable}
-use Rattle.writelog.specs.State.{view, sound}
-use Rattle.writelog.specs.declared.state.State.{State}
+use Rattle.records.specs.State.{view, sound}
+use Rattle.records.specs.declared.state.State.{State}
 
 -- the number goes by the lengths of image, log buffer and working image
 unfoldable pub asked-number : ℕ → State → ℕ → ℕ → ℕ → ℕ → ℕ

@@ -8,8 +8,8 @@ use Rattle.region.specs.Limits.{writes-limit, log-limit}
 use Rattle.region.specs.Pmemspec.{update-bytes}
 use Rattle.region.specs.Answer.{answer-number, unless, if-done}
 use Rattle.region.specs.declared.Answer.{Answer}
-use Rattle.writelog.specs.State.{log-records, together, sound, appended}
-use Rattle.writelog.specs.declared.state.State.{State}
+use Rattle.records.specs.State.{log-records, together, sound, appended}
+use Rattle.records.specs.declared.state.State.{State}
 
 -- the tests of a write of n bytes, from 2 on
 abbrev pub room-number : ℕ → State → ℕ → ℕ → ℕ

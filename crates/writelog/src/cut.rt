@@ -1,10 +1,10 @@
 // The cut.
 use crate::flush::emptied;
-use crate::log::kept;
-use crate::log::replay_selected;
-use crate::state::Outstanding;
-use crate::state::State;
-use crate::state::checked;
+use records::log::kept;
+use records::log::replay_selected;
+use records::state::Outstanding;
+use records::state::State;
+use records::state::checked;
 use region::Refusal;
 use region::chunks::size_to_chunks;
 use replay::rows::row_bytes;

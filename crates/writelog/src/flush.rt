@@ -1,12 +1,12 @@
 // The flush.
-use crate::log::replay_whole;
-use crate::state::Outstanding;
-use crate::state::State;
-use crate::state::checked;
+use records::log::replay_whole;
+use records::state::Outstanding;
+use records::state::State;
+use records::state::checked;
 use region::Answer;
 use region::Refusal;
 ghost use mathlib.Core.Path.{_≡_};
-ghost use Rattle.writelog.specs.State.{emptied};
+ghost use Rattle.records.specs.State.{emptied};
 ghost use Rattle.writelog.specs.Flush.{Flushes};
 
 pub struct Flushed {

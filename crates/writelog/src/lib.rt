@@ -3,8 +3,5 @@
 // pmem_async_spec_t.rs). The state is checked at every call. Nothing is assumed.
 pub mod cut;
 pub mod flush;
-pub mod log;
 pub mod read;
-pub mod record_list;
-pub mod state;
 pub mod write;

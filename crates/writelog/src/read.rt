@@ -1,9 +1,9 @@
 // The read, and the number of the same question.
-use crate::log::replay_whole;
-use crate::state::Outstanding;
-use crate::state::State;
-use crate::state::checked;
-use crate::state::within;
+use records::log::replay_whole;
+use records::state::Outstanding;
+use records::state::State;
+use records::state::checked;
+use records::state::within;
 use region::Answer;
 use region::Refusal;
 use replay::lay::lay;

@@ -1,10 +1,10 @@
 // The plain write.
-use crate::record_list::with_record;
-use crate::state::Outstanding;
-use crate::state::Record;
-use crate::state::State;
-use crate::state::checked;
-use crate::state::within;
+use records::record_list::with_record;
+use records::state::Outstanding;
+use records::state::Record;
+use records::state::State;
+use records::state::checked;
+use records::state::within;
 use region::Answer;
 use region::LOG_LIMIT;
 use region::Refusal;
@@ -16,7 +16,7 @@ ghost use lib.ListN.{length};
 ghost use Rattle.region.specs.Limits.{writes-limit, log-limit};
 ghost use Rattle.region.specs.Pmemspec.{update-bytes};
 ghost use Rattle.region.specs.Answer.{answer-number};
-ghost use Rattle.writelog.specs.State.{log-records, together, appended};
+ghost use Rattle.records.specs.State.{log-records, together, appended};
 ghost use Rattle.writelog.specs.Write.{room-number, Writes};
 
 pub struct Written {

@@ -1,11 +1,11 @@
 -- The loop's invariant: the points counted and those of the records from i on are all points. A write touches no more chunks than it has bytes, so
 -- the count stays below the outstanding bytes. Assumes nothing.
 use Rattle.engine.specs.Count.{record-points}
-use Rattle.writelog.proofs.KeptLaws.{touched-le}
-use Rattle.writelog.proofs.Records.{next, rest, next-and-rest, together-more, inside-more, records-none}
-use Rattle.writelog.specs.declared.state.State.{State}
-use Rattle.writelog.specs.declared.state.Record.{Record}
-use Rattle.writelog.specs.State.{log-records, together, records-inside}
+use Rattle.records.proofs.KeptLaws.{touched-le}
+use Rattle.records.proofs.Records.{next, rest, next-and-rest, together-more, inside-more, records-none}
+use Rattle.records.specs.declared.state.State.{State}
+use Rattle.records.specs.declared.state.Record.{Record}
+use Rattle.records.specs.State.{log-records, together, records-inside}
 use Rattle.replay.specs.Choice.{touched}
 use Rattle.region.specs.Limits.{image-limit}
 use Rattle.region.proofs.Booleans.{both}

@@ -1,7 +1,7 @@
 -- The loop's invariant: the numbers below m are tried and good. Assumes nothing.
 use Rattle.engine.proofs.SearchLaws.{Tried, tried-none, tried-more, found-bad, found-none, numbers-exact, ready-points}
 use Rattle.engine.specs.Search.{Ready}
-use Rattle.writelog.specs.State.{view}
+use Rattle.records.specs.State.{view}
 use borrow.Author.Tests.{not-true, not-false}
 use lib.ListN.{length}
 use lib.Pow.{pow-pos}

@@ -1,8 +1,8 @@
 -- The replay by a choice number, one write falling away at each step: the write takes its points off the number. Assumes nothing.
 use Rattle.engine.proofs.PointLaws.{piece-length, points-more}
 use Rattle.engine.specs.Count.{record-points}
-use Rattle.writelog.proofs.Walk.{oldest, Step, step, no-more, piece-is}
-use Rattle.writelog.specs.Log.{last-records, last-writes, Remaining}
+use Rattle.records.proofs.Walk.{oldest, Step, step, no-more, piece-is}
+use Rattle.records.specs.Log.{last-records, last-writes, Remaining}
 use Rattle.replay.specs.Choice.{touched, row-of, rows-of}
 use Rattle.replay.specs.AsyncSpec.{Write, size-to-chunks, apply-write-selective, flush-writes-selective}
 use Rattle.region.specs.Limits.{const-persistence-chunk-size, points-limit}

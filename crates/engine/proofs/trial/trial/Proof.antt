@@ -1,7 +1,7 @@
 -- A trial, by its three steps. Assumes nothing.
 use Rattle.engine.proofs.PointLaws.{all-points}
 use Rattle.engine.proofs.TrialLaws.{log-remains, trial-image}
-use Rattle.writelog.specs.Log.{Remaining}
+use Rattle.records.specs.Log.{Remaining}
 use Rattle.replay.proofs.Laid.{update-whole}
 use Rattle.replay.specs.Choice.{touched}
 use lib.ListN.{length}

@@ -1,7 +1,7 @@
 -- The test of the state, the judging, and for an admitted write the plain write's own step. Assumes nothing.
 use Rattle.gate.proofs.JudgementLaws.{judgement-unsound, judges-refused, number-0-fits, admitted-number, gates-admitted, gates-denied, gates-refused}
 use Rattle.gate.specs.Judgement.{judge-number}
-use Rattle.writelog.proofs.Soundness.{Told, told-bytes, told-unsound}
+use Rattle.records.proofs.Soundness.{Told, told-bytes, told-unsound}
 use Rattle.region.specs.Pmemspec.{update-bytes}
 use Rattle.region.specs.declared.Refusal.the-variants.{BadState}
 use lib.ListN.{length}
@@ -14,7 +14,7 @@ use Rattle.gate.proofs.gate.gate.Tie as tie
 use Rattle.gate.proofs.gate.gate.Reads as reads
 use Rattle.gate.proofs.gate.gate.Lts as lts
 use Rattle.gate.proofs.judge.decide.Reads as decide-reads
-use Rattle.writelog.proofs.state.checked.Reads as checked-reads
+use Rattle.records.proofs.state.checked.Reads as checked-reads
 use Rattle.writelog.proofs.write.recorded.Reads as recorded-reads
 
 -- what the test of the state told

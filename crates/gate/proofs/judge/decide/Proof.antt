@@ -1,6 +1,6 @@
 -- The tests of a judgement from 1's working image on. Assumes nothing.
 use Rattle.gate.proofs.JudgementLaws.{judgement-other-length, judgement-malformed, judgement-no-room, judgement-room, judges-refused, judges-weighed}
-use Rattle.writelog.proofs.Soundness.{sound-facts}
+use Rattle.records.proofs.Soundness.{sound-facts}
 use Rattle.writelog.proofs.WriteLaws.{room-done}
 use Rattle.sheet.specs.Sheet.{well-formed}
 use Rattle.region.specs.Answer.{answer-number}

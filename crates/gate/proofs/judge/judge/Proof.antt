@@ -1,6 +1,6 @@
 -- The test of the state, and then the judging. Assumes nothing.
 use Rattle.gate.proofs.JudgementLaws.{judgement-unsound, judges-refused}
-use Rattle.writelog.proofs.Soundness.{told-bytes, told-unsound}
+use Rattle.records.proofs.Soundness.{told-bytes, told-unsound}
 use Rattle.region.specs.declared.Refusal.the-variants.{BadState}
 use borrow.Author.Needs.{needs}
 use Rattle.gate.proofs.judge.judge.Statement.{statement}
@@ -8,7 +8,7 @@ use Rattle.gate.proofs.judge.judge.Tie as tie
 use Rattle.gate.proofs.judge.judge.Reads as reads
 use Rattle.gate.proofs.judge.judge.Lts as lts
 use Rattle.gate.proofs.judge.decide.Reads as decide-reads
-use Rattle.writelog.proofs.state.checked.Reads as checked-reads
+use Rattle.records.proofs.state.checked.Reads as checked-reads
 
 -- src/judge.rt:92:36
 checked-requires : tie.Need-checked-requires

@@ -2,9 +2,9 @@
 use Rattle.gate.proofs.JudgementLaws.{weighs-many, weighs-admitted, weighs-denied}
 use Rattle.gate.specs.Judgement.{gate-points}
 use Rattle.engine.proofs.PointLaws.{inside-longer, record-points-le, points-with-a-write}
-use Rattle.writelog.proofs.KeptLaws.{touched-le}
-use Rattle.writelog.proofs.Soundness.{Sound, sound-facts}
-use Rattle.writelog.specs.State.{log-records}
+use Rattle.records.proofs.KeptLaws.{touched-le}
+use Rattle.records.proofs.Soundness.{Sound, sound-facts}
+use Rattle.records.specs.State.{log-records}
 use Rattle.region.specs.Limits.{image-limit, points-limit}
 use lib.ListN.{length}
 use mathlib.Core.Path.{_≡_, sym, ap₂, subst, _∙_}

@@ -4,7 +4,7 @@ use native.Mathlib.Omega.{arith}
 use mathlib.Core.Path.{_≡_, refl, ap, _∙_}
 use mathlib.Core.List.{List}
 use lib.ListN.{length, getD, take, drop, length-set}
-use Rattle.writelog.specs.declared.state.Record.{Record}
+use Rattle.records.specs.declared.state.Record.{Record}
 use Rattle.skaldrift.specs.Words.{records-of}
 use Rattle.skaldrift.proofs.WordLaws.{load-more, said-length, front-all}
 use Rattle.skaldrift.proofs.words.loaded.Statement.{statement}

@@ -6,7 +6,7 @@ use borrow.Author.Tests.{not-true, not-false}
 use borrow.Author.Needs.{needs}
 use Rattle.region.specs.Answer.{answer-number}
 use Rattle.replay.specs.AsyncSpec.{size-to-chunks}
-use Rattle.writelog.proofs.Soundness.{Told, told-bytes, told-unsound}
+use Rattle.records.proofs.Soundness.{Told, told-bytes, told-unsound}
 use Rattle.tape.specs.Write.{tape-sound}
 use Rattle.tape.specs.Epoch.{epoch-number}
 use Rattle.tape.specs.Ending.{as-foretold}

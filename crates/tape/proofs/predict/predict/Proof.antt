@@ -7,7 +7,7 @@ use lib.ListN.{length}
 use borrow.Author.Needs.{needs}
 use Rattle.replay.specs.Rows.{row-bytes}
 use Rattle.replay.specs.AsyncSpec.{size-to-chunks}
-use Rattle.writelog.specs.Log.{Remaining}
+use Rattle.records.specs.Log.{Remaining}
 use Rattle.replay.proofs.Laid.{update-whole}
 use Rattle.tape.proofs.PredictLaws.{replayed-whole, replayed-selected}
 use Rattle.tape.proofs.predict.predict.Statement.{statement}

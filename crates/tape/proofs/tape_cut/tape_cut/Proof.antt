@@ -11,9 +11,9 @@ use borrow.Author.Needs.{needs}
 use Rattle.region.specs.Answer.{answer-number}
 use Rattle.replay.specs.Rows.{rows-at}
 use Rattle.replay.specs.AsyncSpec.{size-to-chunks}
-use Rattle.writelog.proofs.KeptLaws.{kept-by-records}
-use Rattle.writelog.specs.Log.{kept-records}
-use Rattle.writelog.specs.State.{log-records}
+use Rattle.records.proofs.KeptLaws.{kept-by-records}
+use Rattle.records.specs.Log.{kept-records}
+use Rattle.records.specs.State.{log-records}
 use Rattle.tape.specs.Epoch.{epoch-rows}
 use Rattle.tape.specs.Cut.{tape-cut-number}
 use Rattle.tape.proofs.PromiseLaws.{tape-cuts-done, tape-cuts-refused}

@@ -5,7 +5,7 @@ use mathlib.Core.Path.{sym, ap, _∙_}
 use lib.ListN.{length}
 use borrow.Author.Needs.{needs}
 use Rattle.region.specs.Answer.{answer-number}
-use Rattle.writelog.specs.State.{view}
+use Rattle.records.specs.State.{view}
 use Rattle.tape.proofs.PromiseLaws.{tape-flushes-done, tape-flushes-refused}
 use Rattle.tape.proofs.NumberLaws.{Ending, ending-done, predictable-now}
 use Rattle.tape.proofs.PredictLaws.{predicted-flush}

@@ -10,9 +10,9 @@ use borrow.Author.Needs.{needs}
 use Rattle.region.specs.declared.Refusal.the-variants.{BadState}
 use Rattle.region.specs.Pmemspec.{update-bytes}
 use Rattle.region.specs.Answer.{answer-number}
-use Rattle.writelog.proofs.Soundness.{Told, told-bytes, told-unsound}
-use Rattle.writelog.specs.declared.state.State.{State}
-use Rattle.writelog.specs.State.{appended}
+use Rattle.records.proofs.Soundness.{Told, told-bytes, told-unsound}
+use Rattle.records.specs.declared.state.State.{State}
+use Rattle.records.specs.State.{appended}
 use Rattle.tape.specs.Write.{tape-sound, tape-write-number}
 use Rattle.tape.specs.Predictable.{Predictable}
 use Rattle.tape.specs.Ending.{predicted-now}

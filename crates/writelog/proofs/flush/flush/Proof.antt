@@ -5,8 +5,8 @@ use lib.ListN.{length}
 use borrow.Author.Needs.{needs}
 use Rattle.replay.specs.AsyncSpec.{Write, committed, flush-writes}
 use Rattle.writelog.proofs.FlushLaws.{flushes-done, flushes-refused}
-use Rattle.writelog.proofs.Walk.{all-remain, all-writes}
-use Rattle.writelog.proofs.Soundness.{Told, told-bytes, told-unsound}
+use Rattle.records.proofs.Walk.{all-remain, all-writes}
+use Rattle.records.proofs.Soundness.{Told, told-bytes, told-unsound}
 use Rattle.writelog.proofs.flush.flush.Statement.{statement}
 use Rattle.writelog.proofs.flush.flush.Tie as tie
 

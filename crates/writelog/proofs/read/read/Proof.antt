@@ -7,7 +7,7 @@ use mathlib.Core.Path.{_≡_, refl, sym, ap, ap₂, _∙_}
 use lib.ListN.{length, take, drop}
 use borrow.Author.Needs.{needs}
 use Rattle.writelog.specs.Read.{read-number}
-use Rattle.writelog.specs.State.{view}
+use Rattle.records.specs.State.{view}
 use Rattle.replay.specs.AsyncSpec.{readable}
 use Rattle.region.proofs.AnswerLaws.{done-changed, refused-left}
 use Rattle.region.specs.Pmemspec.{extract-bytes}

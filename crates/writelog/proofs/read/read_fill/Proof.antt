@@ -6,15 +6,15 @@ use mathlib.Core.Path.{_≡_, sym, ap, subst⁻¹, _∙_}
 use lib.ListN.{length}
 use borrow.Author.Needs.{needs}
 use Rattle.writelog.specs.Read.{read-number}
-use Rattle.writelog.specs.Log.{last-writes, Remaining}
-use Rattle.writelog.specs.State.{view}
+use Rattle.records.specs.Log.{last-writes, Remaining}
+use Rattle.records.specs.State.{view}
 use Rattle.replay.proofs.Laid.{update-whole}
 use Rattle.replay.specs.AsyncSpec.{Write, committed, flush-writes, readable}
 use Rattle.region.proofs.AnswerLaws.{done-changed, refused-left}
 use Rattle.region.specs.Answer.{answer-number}
 use Rattle.writelog.proofs.ReadLaws.{Asked, asked-done}
-use Rattle.writelog.proofs.Walk.{all-remain, all-writes}
-use Rattle.writelog.proofs.Soundness.{sound-facts}
+use Rattle.records.proofs.Walk.{all-remain, all-writes}
+use Rattle.records.proofs.Soundness.{sound-facts}
 use Rattle.writelog.proofs.read.read_fill.Statement.{statement}
 use Rattle.writelog.proofs.read.read_fill.Tie as tie
 

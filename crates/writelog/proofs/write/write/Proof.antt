@@ -9,8 +9,8 @@ use Rattle.writelog.specs.Write.{write-number}
 use Rattle.region.specs.declared.Refusal.the-variants.{BadState}
 use Rattle.region.specs.Pmemspec.{update-bytes}
 use Rattle.region.specs.Answer.{answer-number}
-use Rattle.writelog.proofs.WriteLaws.{Room, room-done, write-unsound, write-sound, writes-done, writes-refused}
-use Rattle.writelog.proofs.Soundness.{Told, told-bytes, told-unsound}
+use Rattle.records.proofs.Soundness.{Told, told-bytes, told-unsound, Room}
+use Rattle.writelog.proofs.WriteLaws.{room-done, write-unsound, write-sound, writes-done, writes-refused}
 use Rattle.writelog.proofs.write.write.Statement.{statement}
 use Rattle.writelog.proofs.write.write.Tie as tie
 

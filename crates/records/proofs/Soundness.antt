@@ -1,0 +1,73 @@
+-- Refusal 1's test as five facts, which arithmetic reads, and what it means that there is room for a write. Assumes nothing.
+use Prim.Native.Nat.{ℕ, _+_, _≤_, _<_}
+use native.Mathlib.Omega.{arith}
+use mathlib.Core.Path.{_≡_, refl, sym, _∙_}
+use mathlib.Core.Bool.{Bool, true, false, cond}
+use borrow.Author.Tests.{le-leb, leb-true, eq-eqb, eqb-true}
+use Rattle.region.specs.Limits.{image-limit, writes-limit, log-limit}
+use Rattle.region.proofs.Booleans.{cond-when, cond-unless, both, both-true}
+use Rattle.records.specs.State.{log-records, together, records-inside, sound}
+use Rattle.records.specs.declared.state.State.{State}
+use Rattle.records.specs.declared.state.Outstanding.{Outstanding}
+use Rattle.records.specs.declared.state.Outstanding.the-variants.{Bytes, Unsound}
+
+pub record Sound (L : ℕ) (st : State) (log-length : ℕ) : Type 0 where
+  pub short : L ≤ image-limit
+  pub buffer : log-length ≡ log-limit
+  pub few : st .count ≤ writes-limit
+  pub inside : records-inside L (log-records st) ≡ true
+  pub room : together (log-records st) ≤ log-limit
+
+-- there is room for n bytes at addr
+pub record Room (L : ℕ) (st : State) (addr n : ℕ) : Type 0 where
+  pub lies : addr + n ≤ L
+  pub few : st .count < writes-limit
+  pub fits : together (log-records st) + n ≤ log-limit
+
+module _ (L : ℕ) (st : State) (log-length : ℕ) where
+  pub sound-facts : sound L st log-length ≡ true → Sound L st log-length
+  unfolding sound
+  sound-facts e =
+      let f₄ = both _ _ e in
+      let f₃ = both _ _ (f₄ .0) in
+      let f₂ = both _ _ (f₃ .0) in
+      let f₁ = both _ _ (f₂ .0) in
+      record {
+        short = leb-true L image-limit (f₁ .0);
+        buffer = eqb-true log-length log-limit (f₁ .1);
+        few = leb-true (st .count) writes-limit (f₂ .1);
+        inside = f₃ .1;
+        room = leb-true (together (log-records st)) log-limit (f₄ .1);
+      }
+
+  pub facts-sound : Sound L st log-length → sound L st log-length ≡ true
+  unfolding sound
+  facts-sound s =
+      both-true (both-true (both-true (both-true (le-leb L image-limit (s .short)) (eq-eqb log-length log-limit (s .buffer))) (le-leb (st .count) writes-limit (s .few))) (s .inside)) (le-leb (together (log-records st)) log-limit (s .room))
+
+  pub facts-unsound : (Sound L st log-length → ⊥) → sound L st log-length ≡ false
+  facts-unsound n = go (sound L st log-length) refl
+    where
+      go : (b : Bool) → sound L st log-length ≡ b → sound L st log-length ≡ false
+      go true e = absurd (n (sound-facts e))
+      go false e = e
+
+  -- what a caller of `checked` learns from its answer
+  pub record Told (used : ℕ) : Type 0 where
+    pub good : sound L st log-length ≡ true
+    pub facts : Sound L st log-length
+    pub counted : used ≡ together (log-records st)
+
+  pub told-bytes : {r : Outstanding} {used : ℕ} → r ≡ cond (sound L st log-length) (Bytes (together (log-records st))) Unsound → r ≡ Bytes used → Told used
+  told-bytes {r} {used} e b = go (sound L st log-length) refl
+    where
+      go : (t : Bool) → sound L st log-length ≡ t → Told used
+      go true s = record { good = s; facts = sound-facts s; counted = let p : Bytes used ≡ Bytes (together (log-records st)) = sym b ∙ e ∙ cond-when (sound L st log-length) (Bytes (together (log-records st))) Unsound s in cc }
+      go false s = let p : Bytes used ≡ Unsound = sym b ∙ e ∙ cond-unless (sound L st log-length) (Bytes (together (log-records st))) Unsound s in let z : _≡_ {A = ℕ} 0 1 = cc in absurd (omega arith)
+
+  pub told-unsound : {r : Outstanding} → r ≡ cond (sound L st log-length) (Bytes (together (log-records st))) Unsound → r ≡ Unsound → sound L st log-length ≡ false
+  told-unsound {r} e b = go (sound L st log-length) refl
+    where
+      go : (t : Bool) → sound L st log-length ≡ t → sound L st log-length ≡ false
+      go true s = let p : Unsound ≡ Bytes (together (log-records st)) = sym b ∙ e ∙ cond-when (sound L st log-length) (Bytes (together (log-records st))) Unsound s in let z : _≡_ {A = ℕ} 0 1 = cc in absurd (omega arith)
+      go false s = s

@@ -1,0 +1,78 @@
+-- One step of a walk over the log: what is known of the oldest remaining write, and of those after it. Assumes nothing.
+use Prim.Native.Nat.{ℕ, _+_, _-_, _≤_, _<_}
+use native.Mathlib.Nat.{add-sub-cancel-left, min-le-left, sub-self, le-refl}
+use native.Mathlib.Omega.{arith}
+use mathlib.Core.Path.{_≡_, sym, ap, ap₂, _∙_}
+use mathlib.Core.List.{List, [], _∷_}
+use lib.ListN.{length, take, drop, length-take}
+use lib.Seq.{drop-drop}
+use borrow.Author.Tests.{leb-true}
+use Rattle.region.specs.Limits.{writes-limit}
+use Rattle.region.proofs.Booleans.{both}
+use Rattle.records.specs.State.{log-records, together, records-inside, writes-of}
+use Rattle.records.specs.Log.{last-records, last-writes, Remaining}
+use Rattle.records.specs.declared.state.Record.{Record}
+use Rattle.records.specs.declared.state.State.{State}
+use Rattle.records.proofs.Soundness.{Sound}
+use Rattle.records.proofs.Records.{next, together-more, inside-more, writes-more, records-none}
+
+-- the oldest of the last `left` records
+abbrev pub oldest : State → ℕ → Record
+oldest st left = next st (st .count - left)
+
+-- the part of the log buffer that a write's bytes are
+pub piece-is : (at n : ℕ) (log : List ℕ) → take (at + n - at) (drop at log) ≡ take n (drop at log)
+piece-is at n log = ap (λ (k : ℕ). take k (drop at log)) (add-sub-cancel-left at n)
+
+pub piece-le : (at n : ℕ) (log : List ℕ) → length (take (at + n - at) (drop at log)) ≤ n
+piece-le at n log = rw (add-sub-cancel-left at n, length-take n (drop at log)) (min-le-left n (length (drop at log)))
+
+-- what is known where r is that record
+pub record StepBy (L : ℕ) (st : State) (log-length at left : ℕ) (r : Record) : Type 0 where
+  pub index : st .count - left < 32
+  pub lies : r .addr + r .len ≤ L
+  pub has : at + r .len ≤ log-length
+  pub after : Remaining L st log-length (at + r .len) (left - 1)
+  pub writes : (log : List ℕ) → last-writes st left log at ≡ record { addr = r .addr; bytes = take (r .len) (drop at log) } ∷ last-writes st (left - 1) log (at + r .len)
+
+abbrev pub Step : (L : ℕ) (st : State) (log-length at left : ℕ) → Type 0
+Step L st log-length at left = StepBy L st log-length at left (oldest st left)
+
+module _ (L : ℕ) (st : State) (n at left : ℕ) (r : Remaining L st n at left) where
+  -- nothing is left to walk over
+  pub no-more : left ≡ 0 → (log : List ℕ) → last-writes st left log at ≡ []
+  unfolding writes-of
+  no-more e log = ap (λ (rs : List Record). writes-of rs (drop at log)) (records-none st (st .count - left) (omega arith))
+
+  pub step : 0 < left → Step L st n at left
+  step p =
+      let i : ℕ = st .count - left in
+      let h : st .count - left < st .count = omega (arith, r .some) in
+      let l : st .count ≤ length (st .records) = omega (arith, r .sized, r .few) in
+      let follow : st .count - left + 1 ≡ st .count - (left - 1) = omega (arith, r .some) in
+      let sum : together (last-records st left) ≡ oldest st left .len + together (last-records st (left - 1)) =
+      together-more st (st .count - left) h l ∙ ap (λ (k : ℕ). oldest st left .len + together (drop k (log-records st))) follow in
+      let in-both = both _ _ (sym (inside-more st (st .count - left) h l L) ∙ r .inside) in
+      record {
+        index = omega (arith, r .few);
+        lies = leb-true (oldest st left .addr + oldest st left .len) L (in-both .0);
+        has = omega (arith, sum, r .room);
+        after = record { sized = r .sized; few = r .few; some = omega (arith, r .some); inside = ap (λ (k : ℕ). records-inside L (drop k (log-records st))) (sym follow) ∙ in-both .1; room = omega (arith, sum, r .room) };
+        writes = λ log. writes-more st (st .count - left) h l (drop at log) ∙ ap₂ (λ (k : ℕ) (bytes : List ℕ). record { addr = oldest st left .addr; bytes = take (oldest st left .len) (drop at log) } ∷ writes-of (drop k (log-records st)) bytes) follow (drop-drop (oldest st left .len) at log);
+      }
+
+-- a walk over the whole log of a sound state
+module _ (L : ℕ) (st : State) (n : ℕ) where
+  pub all-remain : length (st .records) ≡ writes-limit → Sound L st n → Remaining L st n 0 (st .count)
+  all-remain sized s =
+      let from-first : st .count - st .count ≡ 0 = sub-self (st .count) in
+      record {
+        sized = sized;
+        few = s .few;
+        some = le-refl (st .count);
+        inside = ap (λ (k : ℕ). records-inside L (drop k (log-records st))) from-first ∙ s .inside;
+        room = omega (arith, ap (λ (k : ℕ). together (drop k (log-records st))) from-first, s .room, s .buffer);
+      }
+
+  pub all-writes : (log : List ℕ) → last-writes st (st .count) log 0 ≡ writes-of (log-records st) log
+  all-writes log = ap (λ (k : ℕ). writes-of (drop k (log-records st)) log) (sub-self (st .count))

@@ -1,0 +1,42 @@
+-- What a walk over the log has before it: the last `left` records, the oldest of which has its bytes at `at`.
+use Prim.Native.Nat.{ℕ, _+_, _-_, _*_, _≤_}
+use mathlib.Core.Path.{_≡_}
+use mathlib.Core.Bool.{Bool, true, false}
+use mathlib.Core.List.{List, [], _∷_}
+use lib.ListN.{length, getD, drop}
+use Rattle.region.specs.Limits.{image-limit, writes-limit, log-limit, const-persistence-chunk-size}
+use Rattle.replay.specs.AsyncSpec.{Write, addr-to-chunk, size-to-chunks}
+use Rattle.replay.specs.Choice.{touched}
+use Rattle.replay.specs.Rows.{set-bits, row-bytes}
+use Rattle.records.specs.State.{log-records, together, writes-of, records-inside}
+use Rattle.records.specs.declared.state.Record.{Record}
+use Rattle.records.specs.declared.state.State.{State}
+
+abbrev pub last-records : State → ℕ → List Record
+last-records st left = drop (st .count - left) (log-records st)
+
+abbrev pub last-writes : State → ℕ → List ℕ → ℕ → List Write
+last-writes st left log at = writes-of (last-records st left) (drop at log)
+
+-- they lie inside the image, and their bytes inside the buffer
+pub record Remaining (L : ℕ) (st : State) (log-length at left : ℕ) : Type 0 where
+  pub sized : length (st .records) ≡ writes-limit
+  pub few : st .count ≤ writes-limit
+  pub some : left ≤ st .count
+  pub inside : records-inside L (last-records st left) ≡ true
+  pub room : at + together (last-records st left) ≤ log-length
+
+-- The kept count goes by addresses and lengths alone, so it needs no bytes: this is `kept` of the records' writes (`proofs/KeptLaws.antt`).
+unfoldable pub kept-records : ℕ → List Record → List (List Bool) → ℕ
+kept-records C [] rows = 0
+kept-records C (r ∷ rs) rows =
+    set-bits (λ c. getD (getD rows 0 []) c false) (addr-to-chunk C (r .addr)) (touched C (r .addr) (r .len)) + kept-records C rs (drop 1 rows)
+
+-- what the count asks of a sound state and a right table
+pub record KeptFrom (L : ℕ) (st : State) (table-length : ℕ) : Type 0 where
+  pub sized : length (st .records) ≡ writes-limit
+  pub short : L ≤ image-limit
+  pub few : st .count ≤ writes-limit
+  pub inside : records-inside L (log-records st) ≡ true
+  pub room : together (log-records st) ≤ log-limit
+  pub right : st .count * row-bytes (size-to-chunks const-persistence-chunk-size L) ≤ table-length

@@ -1,0 +1,54 @@
+-- What the state and the log buffer mean: the outstanding writes, packed oldest first. Document 01, "Region, chunks, log".
+use Prim.Native.Nat.{ℕ, _+_}
+use mathlib.Core.Bool.{Bool, true, _&&_}
+use mathlib.Core.List.{List, [], _∷_}
+use lib.Dec.{leb, eqb}
+use lib.ListN.{take, drop, set}
+use Rattle.region.specs.Limits.{image-limit, writes-limit, log-limit}
+use Rattle.replay.specs.AsyncSpec as async
+use Rattle.records.specs.declared.state.Record.{Record}
+use Rattle.records.specs.declared.state.State.{State}
+
+-- the records of the log are those below the count: old records past it are nobody's business
+abbrev pub log-records : State → List Record
+log-records st = take (st .count) (st .records)
+
+-- the data bytes of the records together
+unfoldable pub together : List Record → ℕ
+together [] = 0
+together (r ∷ rs) = r .len + together rs
+
+-- each record with its bytes, which follow those of the records before it
+unfoldable pub writes-of : List Record → List ℕ → List async.Write
+writes-of [] log = []
+writes-of (r ∷ rs) log = record { addr = r .addr; bytes = take (r .len) log } ∷ writes-of rs (drop (r .len) log)
+
+-- what the lent memory stands for: the image at the last flush, and the outstanding writes
+abbrev pub view : List ℕ → State → List ℕ → async.AsyncView
+view image st log = record { state-at-last-flush = image; outstanding-writes = writes-of (log-records st) log }
+
+-- every record lies inside an image of L bytes, in whole numbers
+unfoldable pub records-inside : ℕ → List Record → Bool
+records-inside L [] = true
+records-inside L (r ∷ rs) = leb (r .addr + r .len) L && records-inside L rs
+
+-- refusal 1, as far as every call meets it: "L over 4096; a record outside L or over the log's budgets; log buffer not 1024 bytes"
+unfoldable pub sound : ℕ → State → ℕ → Bool
+sound L st log-length =
+    leb L image-limit && eqb log-length log-limit && leb (st .count) writes-limit && records-inside L (log-records st) && leb (together (log-records st)) log-limit
+
+-- what stands where there is no record
+abbrev pub no-record : Record
+no-record = record { addr = 0; len = 0 }
+
+-- the state with r at index count
+abbrev pub with-record : State → Record → State
+with-record st r = record { count = st .count; records = set (st .records) (st .count) r }
+
+-- the state with one record more, at index count
+abbrev pub appended : State → ℕ → ℕ → State
+appended st addr len = record { count = st .count + 1; records = set (st .records) (st .count) (record { addr = addr; len = len }) }
+
+-- the state with an empty log: "old records and log bytes stay"
+abbrev pub emptied : State → State
+emptied st = record { count = 0; records = st .records }

@@ -1,0 +1,78 @@
+// Walks over the log, oldest write first, one write falling away at each step.
+use crate::record_list::record_at;
+use crate::state::Record;
+use crate::state::State;
+use region::CHUNK_SIZE;
+use region::chunks::size_to_chunks;
+use replay::lay::lay;
+use replay::lay::lay_selected;
+use replay::points::touched;
+use replay::rows::row_bytes;
+use replay::rows::set_bits;
+ghost use mathlib.Core.Path.{_≡_};
+ghost use Prim.Native.Nat.{_+_, _*_, _≤_};
+ghost use lib.ListN.{length};
+ghost use Rattle.region.specs.Limits.{const-persistence-chunk-size};
+ghost use Rattle.replay.specs.AsyncSpec.{size-to-chunks, committed, flush-writes, flush-writes-selective};
+ghost use Rattle.replay.specs.Rows.{row-bytes, rows-at};
+ghost use Rattle.records.specs.Log.{last-writes, Remaining, kept-records, KeptFrom};
+ghost use Rattle.records.specs.State.{log-records};
+
+// The last `left` writes, whose bytes begin at `at`, laid whole over `work`: `flush`.
+pub fn replay_whole(state: State, log: &[u8], work: &mut [u8], at: usize, left: usize)
+    requires { ⌜ Remaining (length (now work)) state (length (now log)) at left ⌝ }
+    ensures { λ _. ⌜ now (work .exit) ≡ committed (flush-writes (now (work .entry)) (last-writes state left (now (log .entry)) at)) ⌝ }
+{
+    if left == 0 {
+        return;
+    }
+    let i = state.count - left;
+    let r = record_at(state, i);
+    let end = at + r.len;
+    lay(work, r.addr, &log[at..end]);
+    replay_whole(state, log, work, end, left - 1);
+}
+
+// The same by the chunks that the rows from `row` on keep, each of `width` bytes: `flush_selective`.
+pub fn replay_selected(
+    state: State,
+    log: &[u8],
+    rows: &[u8],
+    width: usize,
+    work: &mut [u8],
+    at: usize,
+    row: usize,
+    left: usize,
+)
+    requires { ⌜ Remaining (length (now work)) state (length (now log)) at left ⌝ }
+    requires { ⌜ (width ≡ row-bytes (size-to-chunks const-persistence-chunk-size (length (now work)))) × (row + left * width ≤ length (now rows)) ⌝ }
+    ensures { λ _. ⌜ now (work .exit) ≡ flush-writes-selective const-persistence-chunk-size (now (work .entry)) (last-writes state left (now (log .entry)) at) (rows-at (size-to-chunks const-persistence-chunk-size (length (now (work .entry)))) left (now (rows .entry)) row) ⌝ }
+{
+    if left == 0 {
+        return;
+    }
+    let next = state.count - left;
+    let r = record_at(state, next);
+    let end = at + r.len;
+    lay_selected(work, r.addr, &log[at..end], rows, row);
+    replay_selected(state, log, rows, width, work, end, row + width, left - 1);
+}
+
+// The pieces that a right table keeps: the set bits among each write's touched chunks, summed.
+pub fn kept(state: State, size: usize, rows: &[u8]) -> usize
+    requires { ⌜ KeptFrom size state (length (now rows)) ⌝ }
+    ensures { λ r. ⌜ r ≡ kept-records const-persistence-chunk-size (log-records state) (rows-at (size-to-chunks const-persistence-chunk-size size) (state .count) (now (rows .entry)) 0) ⌝ }
+{
+    let width = row_bytes(size_to_chunks(size));
+    let count = state.count;
+    let mut sum = 0;
+    let mut row = 0;
+    let mut i = 0;
+    while i < count {
+        let r = record_at(state, i);
+        sum += set_bits(rows, row, r.addr / CHUNK_SIZE, touched(r.addr, r.len));
+        row += width;
+        i += 1;
+    }
+    sum
+}

@@ -1,0 +1,68 @@
+// The state: the outstanding writes' records. Their bytes lie in the log buffer, packed oldest
+// first, so that where a record's bytes begin is the sum of the lengths before it.
+use region::IMAGE_LIMIT;
+use region::LOG_LIMIT;
+use region::WRITES_LIMIT;
+ghost use mathlib.Core.Path.{_≡_};
+ghost use mathlib.Core.Bool.{cond};
+ghost use Prim.Native.Nat.{_+_, _<_};
+ghost use lib.Dec.{leb};
+ghost use lib.ListN.{length};
+ghost use Rattle.region.specs.Limits.{writes-limit};
+ghost use Rattle.records.specs.State.{log-records, together, sound};
+
+pub struct Record {
+    pub addr: usize,
+    pub len: usize,
+}
+
+pub struct State {
+    pub count: usize,
+    pub records: [Record; 32],
+}
+
+// The outstanding bytes of a sound state, or that it is none.
+pub enum Outstanding {
+    Bytes(usize),
+    Unsound,
+}
+
+// addr + len is at most size, in whole numbers.
+pub fn within(addr: usize, len: usize, size: usize) -> bool
+    ensures { λ r. ⌜ r ≡ leb (addr + len) size ⌝ }
+{
+    if size < len {
+        return false;
+    }
+    addr <= size - len
+}
+
+// Tests what every call is handed: the image's length, the state and the log buffer's length.
+pub fn checked(state: State, image: usize, log: usize) -> Outstanding
+    ensures { λ r. ⌜ (r ≡ cond (sound image state log) (Outstanding.Bytes (together (log-records state))) Outstanding.Unsound) × (length (state .records) ≡ writes-limit) ⌝ }
+{
+    if IMAGE_LIMIT < image {
+        return Outstanding::Unsound;
+    }
+    if log != LOG_LIMIT {
+        return Outstanding::Unsound;
+    }
+    let count = state.count;
+    if WRITES_LIMIT < count {
+        return Outstanding::Unsound;
+    }
+    let mut used = 0;
+    let mut i = 0;
+    while i < count {
+        let r = state.records[i];
+        if !within(r.addr, r.len, image) {
+            return Outstanding::Unsound;
+        }
+        if LOG_LIMIT - used < r.len {
+            return Outstanding::Unsound;
+        }
+        used += r.len;
+        i += 1;
+    }
+    Outstanding::Bytes(used)
+}
