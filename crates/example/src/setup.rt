@@ -2,6 +2,7 @@
 use region::Answer;
 use region::IMAGE_LIMIT;
 use region::Refusal;
+use replay::lay::lay;
 ghost use Rattle.example.specs.Setup.{SetsUp};
 
 // Makes the byte at `addr` val0, and leaves every other byte.
@@ -14,6 +15,6 @@ pub fn setup(image: &mut [u8], addr: usize, val0: u8) -> Answer
     if image.len() <= addr {
         return Answer::Refused(Refusal::OutOfRange);
     }
-    image[addr] = val0;
+    lay(image, addr, &[val0]);
     Answer::Done
 }

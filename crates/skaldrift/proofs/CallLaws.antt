@@ -8,8 +8,8 @@ use borrow.Author.Tests.{eq-eqb, ne-eqb}
 use Rattle.region.specs.Answer.{if-done}
 use Rattle.region.proofs.Booleans.{cond-when, cond-unless}
 use Rattle.records.specs.declared.state.State.{State}
-use Rattle.skaldrift.specs.Words.{state-words, state-of, words-of, of-state}
-use Rattle.skaldrift.proofs.WordLaws.{same-words}
+use Rattle.words.specs.Words.{state-words, state-of, words-of, of-state}
+use Rattle.words.proofs.WordLaws.{same-words}
 
 -- words of the right number are a state, and others are refused
 module _ {ℓ} {A : Type ℓ} (words : List ℕ) (refused : A) (call : State → A) where

@@ -11,7 +11,7 @@ use Rattle.records.specs.declared.state.State.{State}
 use Rattle.gate.specs.Opening.{fresh, open-number, Opens}
 use Rattle.gate.specs.Judgement.{verdict-report, judge-report, judge-number, judge-work, Judges, Gates}
 use Rattle.gate.specs.declared.Verdict.{Verdict}
-use Rattle.skaldrift.specs.Words.{state-words, state-of, words-of, record-words, of-state, reported}
+use Rattle.words.specs.Words.{state-words, state-of, words-of, record-words, of-state, reported}
 use Rattle.skaldrift.specs.Gate.{skaldrift-judge-number, SkaldriftOpen, SkaldriftJudge, SkaldriftGate}
 use Rattle.skaldrift.proofs.CallLaws.{right, wrong, right-by, right-words, wrong-by}
 

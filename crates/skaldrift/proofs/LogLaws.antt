@@ -14,7 +14,7 @@ use Rattle.writelog.specs.Flush.{flush-number, Flushes}
 use Rattle.writelog.specs.Cut.{cut-report, cut-number, cut-image, cut-kept, Cuts}
 use Rattle.records.specs.declared.state.State.{State}
 use Rattle.writelog.specs.declared.cut.CutAnswer.{CutAnswer}
-use Rattle.skaldrift.specs.Words.{state-words, state-of, words-of, reported}
+use Rattle.words.specs.Words.{state-words, state-of, words-of, reported}
 use Rattle.skaldrift.specs.Log.{SkaldriftWrite, SkaldriftRead, SkaldriftFlush, SkaldriftCut}
 use Rattle.skaldrift.proofs.CallLaws.{right, wrong, right-by, right-words, wrong-by, report-by}
 

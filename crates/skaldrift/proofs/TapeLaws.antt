@@ -14,7 +14,7 @@ use Rattle.tape.specs.Write.{tape-write-number, log-with, predicted-with, TapeW
 use Rattle.tape.specs.Ending.{next-start, predicted-now}
 use Rattle.tape.specs.Flush.{tape-flush-number, TapeFlushes}
 use Rattle.tape.specs.Cut.{tape-cut-number, tape-kept, TapeCuts}
-use Rattle.skaldrift.specs.Words.{state-words, state-of, words-of, reported}
+use Rattle.words.specs.Words.{state-words, state-of, words-of, reported}
 use Rattle.skaldrift.specs.Tape.{SkaldriftTapeWrite, SkaldriftTapeFlush, SkaldriftTapeCut}
 use Rattle.skaldrift.proofs.CallLaws.{right, wrong, right-by, right-words, wrong-by, report-by}
 

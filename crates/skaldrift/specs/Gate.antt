@@ -9,7 +9,7 @@ use Rattle.region.specs.Answer.{if-done}
 use Rattle.records.specs.State.{log-records, together, appended}
 use Rattle.gate.specs.Opening.{fresh, open-number}
 use Rattle.gate.specs.Judgement.{judge-report, judge-number, judge-work}
-use Rattle.skaldrift.specs.Words.{state-of, words-of, of-state, reported}
+use Rattle.words.specs.Words.{state-of, words-of, of-state, reported}
 
 abbrev pub skaldrift-open-number : (words image log sheet : List ℕ) → ℕ
 skaldrift-open-number words image log sheet = of-state words 1 (λ st. open-number image log sheet)

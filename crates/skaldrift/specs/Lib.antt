@@ -1,6 +1,4 @@
--- The definitions that `skaldrift`'s contracts cite: `Words` has the state as it crosses to another language; `Log`, `Gate`, `Tape` and
--- `Example` what the functions over `writelog`, `gate`, `tape` and `example` promise.
-pub mod Words
+-- The definitions that `skaldrift`'s contracts cite: what the functions over `writelog`, `gate`, `tape` and `example` promise.
 pub mod Log
 pub mod Gate
 pub mod Tape

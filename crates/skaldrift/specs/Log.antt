@@ -12,7 +12,7 @@ use Rattle.writelog.specs.Write.{write-number}
 use Rattle.writelog.specs.Read.{read-number}
 use Rattle.writelog.specs.Flush.{flush-number}
 use Rattle.writelog.specs.Cut.{cut-number, cut-image, cut-kept}
-use Rattle.skaldrift.specs.Words.{state-of, words-of, of-state}
+use Rattle.words.specs.Words.{state-of, words-of, of-state}
 
 abbrev pub skaldrift-write-number : (words image log : List ℕ) (addr : ℕ) (bytes : List ℕ) → ℕ
 skaldrift-write-number words image log addr bytes = of-state words 1 (λ st. write-number image st log addr (length bytes))

@@ -11,7 +11,7 @@ use Rattle.tape.specs.Write.{tape-write-number, log-with, predicted-with}
 use Rattle.tape.specs.Ending.{next-start, predicted-now}
 use Rattle.tape.specs.Flush.{tape-flush-number}
 use Rattle.tape.specs.Cut.{tape-cut-number, tape-kept}
-use Rattle.skaldrift.specs.Words.{state-of, words-of, of-state}
+use Rattle.words.specs.Words.{state-of, words-of, of-state}
 
 abbrev pub skaldrift-tape-write-number : (words image log tape : List ℕ) (start : ℕ) (predicted : List ℕ) (addr : ℕ) (bytes : List ℕ) → ℕ
 skaldrift-tape-write-number words image log tape start predicted addr bytes = of-state words 1 (λ st. tape-write-number image st log tape start predicted addr (length bytes))

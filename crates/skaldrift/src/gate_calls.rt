@@ -1,17 +1,14 @@
 // Opening, the judging call and the gate.
-use crate::words::STATE_WORDS;
-use crate::words::loaded;
-use crate::words::stored;
-use gate::Verdict;
 use gate::gate::gate;
 use gate::judge::judge;
 use gate::open::open;
 use region::Refusal;
 use region::numbers::answer_number;
 use region::numbers::refusal_number;
-ghost use mathlib.Core.Path.{_≡_};
-ghost use Rattle.gate.specs.Judgement.{verdict-report};
-ghost use Rattle.skaldrift.specs.Words.{reported};
+use words::reports::verdict_number;
+use words::state_words::STATE_WORDS;
+use words::state_words::loaded;
+use words::state_words::stored;
 ghost use Rattle.skaldrift.specs.Gate.{SkaldriftOpen, SkaldriftJudge, SkaldriftGate};
 
 // Judges the image and starts an empty log. Of the state only its length is looked at.
@@ -27,23 +24,6 @@ pub extern "C" fn skaldrift_open(state: &mut [u64], image: &[u8], log: &[u8], sh
     stored(state, opened.state);
     let answer = opened.answer;
     answer_number(answer)
-}
-
-// A verdict's number; its n or m goes to `report`.
-pub fn verdict_number(verdict: Verdict, report: &mut u64) -> u64
-    ensures { λ r. ⌜ (r ≡ verdict-report verdict .number) × (now (report .exit) ≡ reported (verdict-report verdict) (now (report .entry))) ⌝ }
-{
-    match verdict {
-        Verdict::Admitted(n) => {
-            *report = n as u64;
-            0
-        }
-        Verdict::Denied(m) => {
-            *report = m as u64;
-            8
-        }
-        Verdict::Refused(why) => refusal_number(why),
-    }
 }
 
 // What the gate would answer, and the working image that it would leave. Records nothing.

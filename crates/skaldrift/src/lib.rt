@@ -8,4 +8,3 @@ pub mod example_calls;
 pub mod gate_calls;
 pub mod log_calls;
 pub mod tape_calls;
-pub mod words;

@@ -1,18 +1,17 @@
 // The log's calls: write, read, flush and cut.
-use crate::words::STATE_WORDS;
-use crate::words::loaded;
-use crate::words::stored;
 use region::Refusal;
 use region::numbers::answer_number;
 use region::numbers::refusal_number;
-use writelog::cut::CutAnswer;
+use words::reports::cut_number;
+use words::state_words::STATE_WORDS;
+use words::state_words::loaded;
+use words::state_words::stored;
 use writelog::cut::cut;
 use writelog::flush::flush;
 use writelog::read::read_fill;
 use writelog::write::write;
 ghost use mathlib.Core.Path.{_≡_};
-ghost use Rattle.writelog.specs.Cut.{cut-report};
-ghost use Rattle.skaldrift.specs.Words.{state-words, reported};
+ghost use Rattle.words.specs.Words.{state-words};
 ghost use Rattle.skaldrift.specs.Log.{SkaldriftWrite, SkaldriftRead, SkaldriftFlush, SkaldriftCut};
 
 // The words of a state: the length that every other function asks of `state`.
@@ -77,19 +76,6 @@ pub extern "C" fn skaldrift_flush(state: &mut [u64], image: &mut [u8], log: &[u8
     stored(state, flushed.state);
     let answer = flushed.answer;
     answer_number(answer)
-}
-
-// A cut's number; its kept count goes to `report`.
-pub fn cut_number(answer: CutAnswer, report: &mut u64) -> u64
-    ensures { λ r. ⌜ (r ≡ cut-report answer .number) × (now (report .exit) ≡ reported (cut-report answer) (now (report .entry))) ⌝ }
-{
-    match answer {
-        CutAnswer::Kept(kept) => {
-            *report = kept as u64;
-            0
-        }
-        CutAnswer::Refused(why) => refusal_number(why),
-    }
 }
 
 // Makes the replay with the rows the image, and empties the log.

@@ -1,14 +1,14 @@
 // The calls by tape.
-use crate::log_calls::cut_number;
-use crate::words::STATE_WORDS;
-use crate::words::loaded;
-use crate::words::stored;
 use region::Refusal;
 use region::numbers::answer_number;
 use region::numbers::refusal_number;
 use tape::tape_cut::tape_cut;
 use tape::tape_flush::tape_flush;
 use tape::tape_write::tape_write;
+use words::reports::cut_number;
+use words::state_words::STATE_WORDS;
+use words::state_words::loaded;
+use words::state_words::stored;
 ghost use Rattle.skaldrift.specs.Tape.{SkaldriftTapeWrite, SkaldriftTapeFlush, SkaldriftTapeCut};
 
 // Records a write of `data` at `addr`, judged by nobody, and predicts the image with it.

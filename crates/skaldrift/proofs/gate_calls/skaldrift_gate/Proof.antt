@@ -8,9 +8,9 @@ use Rattle.skaldrift.proofs.gate_calls.skaldrift_gate.Reads as reads
 use Rattle.skaldrift.proofs.gate_calls.skaldrift_gate.Lts as lts
 use Rattle.gate.proofs.gate.gate.Reads as gate-reads
 use Rattle.region.proofs.numbers.refusal_number.Reads as refusal-number-reads
-use Rattle.skaldrift.proofs.gate_calls.verdict_number.Reads as verdict-number-reads
-use Rattle.skaldrift.proofs.words.loaded.Reads as loaded-reads
-use Rattle.skaldrift.proofs.words.stored.Reads as stored-reads
+use Rattle.words.proofs.reports.verdict_number.Reads as verdict-number-reads
+use Rattle.words.proofs.state_words.loaded.Reads as loaded-reads
+use Rattle.words.proofs.state_words.stored.Reads as stored-reads
 
 -- src/gate_calls.rt:84:9
 refusal-number-requires : tie.Need-refusal-number-requires

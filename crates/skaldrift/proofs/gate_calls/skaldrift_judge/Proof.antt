@@ -8,8 +8,8 @@ use Rattle.skaldrift.proofs.gate_calls.skaldrift_judge.Reads as reads
 use Rattle.skaldrift.proofs.gate_calls.skaldrift_judge.Lts as lts
 use Rattle.gate.proofs.judge.judge.Reads as judge-reads
 use Rattle.region.proofs.numbers.refusal_number.Reads as refusal-number-reads
-use Rattle.skaldrift.proofs.gate_calls.verdict_number.Reads as verdict-number-reads
-use Rattle.skaldrift.proofs.words.loaded.Reads as loaded-reads
+use Rattle.words.proofs.reports.verdict_number.Reads as verdict-number-reads
+use Rattle.words.proofs.state_words.loaded.Reads as loaded-reads
 
 -- src/gate_calls.rt:63:9
 refusal-number-requires : tie.Need-refusal-number-requires

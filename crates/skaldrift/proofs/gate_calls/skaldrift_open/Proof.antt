@@ -9,8 +9,8 @@ use Rattle.skaldrift.proofs.gate_calls.skaldrift_open.Lts as lts
 use Rattle.gate.proofs.open.open.Reads as open-reads
 use Rattle.region.proofs.numbers.answer_number.Reads as answer-number-reads
 use Rattle.region.proofs.numbers.refusal_number.Reads as refusal-number-reads
-use Rattle.skaldrift.proofs.words.loaded.Reads as loaded-reads
-use Rattle.skaldrift.proofs.words.stored.Reads as stored-reads
+use Rattle.words.proofs.state_words.loaded.Reads as loaded-reads
+use Rattle.words.proofs.state_words.stored.Reads as stored-reads
 
 -- src/gate_calls.rt:23:9
 refusal-number-requires : tie.Need-refusal-number-requires

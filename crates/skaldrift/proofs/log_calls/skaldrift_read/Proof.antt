@@ -8,7 +8,7 @@ use Rattle.skaldrift.proofs.log_calls.skaldrift_read.Reads as reads
 use Rattle.skaldrift.proofs.log_calls.skaldrift_read.Lts as lts
 use Rattle.region.proofs.numbers.answer_number.Reads as answer-number-reads
 use Rattle.region.proofs.numbers.refusal_number.Reads as refusal-number-reads
-use Rattle.skaldrift.proofs.words.loaded.Reads as loaded-reads
+use Rattle.words.proofs.state_words.loaded.Reads as loaded-reads
 use Rattle.writelog.proofs.read.read_fill.Reads as read-fill-reads
 
 -- src/log_calls.rt:59:9

@@ -8,8 +8,8 @@ use Rattle.skaldrift.proofs.log_calls.skaldrift_write.Reads as reads
 use Rattle.skaldrift.proofs.log_calls.skaldrift_write.Lts as lts
 use Rattle.region.proofs.numbers.answer_number.Reads as answer-number-reads
 use Rattle.region.proofs.numbers.refusal_number.Reads as refusal-number-reads
-use Rattle.skaldrift.proofs.words.loaded.Reads as loaded-reads
-use Rattle.skaldrift.proofs.words.stored.Reads as stored-reads
+use Rattle.words.proofs.state_words.loaded.Reads as loaded-reads
+use Rattle.words.proofs.state_words.stored.Reads as stored-reads
 use Rattle.writelog.proofs.write.write.Reads as write-reads
 
 -- src/log_calls.rt:38:9

@@ -7,9 +7,9 @@ use Rattle.skaldrift.proofs.tape_calls.skaldrift_tape_cut.Tie as tie
 use Rattle.skaldrift.proofs.tape_calls.skaldrift_tape_cut.Reads as reads
 use Rattle.skaldrift.proofs.tape_calls.skaldrift_tape_cut.Lts as lts
 use Rattle.region.proofs.numbers.refusal_number.Reads as refusal-number-reads
-use Rattle.skaldrift.proofs.log_calls.cut_number.Reads as cut-number-reads
-use Rattle.skaldrift.proofs.words.loaded.Reads as loaded-reads
-use Rattle.skaldrift.proofs.words.stored.Reads as stored-reads
+use Rattle.words.proofs.reports.cut_number.Reads as cut-number-reads
+use Rattle.words.proofs.state_words.loaded.Reads as loaded-reads
+use Rattle.words.proofs.state_words.stored.Reads as stored-reads
 use Rattle.tape.proofs.tape_cut.tape_cut.Reads as tape-cut-reads
 
 -- src/tape_calls.rt:82:9

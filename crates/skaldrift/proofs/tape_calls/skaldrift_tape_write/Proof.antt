@@ -8,8 +8,8 @@ use Rattle.skaldrift.proofs.tape_calls.skaldrift_tape_write.Reads as re
 use Rattle.skaldrift.proofs.tape_calls.skaldrift_tape_write.Lts as lts
 use Rattle.region.proofs.numbers.answer_number.Reads as answer-number-reads
 use Rattle.region.proofs.numbers.refusal_number.Reads as refusal-number-reads
-use Rattle.skaldrift.proofs.words.loaded.Reads as loaded-reads
-use Rattle.skaldrift.proofs.words.stored.Reads as stored-reads
+use Rattle.words.proofs.state_words.loaded.Reads as loaded-reads
+use Rattle.words.proofs.state_words.stored.Reads as stored-reads
 use Rattle.tape.proofs.tape_write.tape_write.Reads as tape-write-reads
 
 -- src/tape_calls.rt:29:9

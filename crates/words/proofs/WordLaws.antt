@@ -9,7 +9,7 @@ use lib.Seq.{take-suc, take-suc-set, take-all, getD-drop}
 use Rattle.region.specs.Limits.{writes-limit}
 use Rattle.records.specs.declared.state.Record.{Record}
 use Rattle.records.specs.declared.state.State.{State}
-use Rattle.skaldrift.specs.Words.{state-words, records-of, record-words, state-of, words-of}
+use Rattle.words.specs.Words.{state-words, records-of, record-words, state-of, words-of}
 
 -- what stands where there is no record
 abbrev pub no-record : Record

@@ -5,12 +5,12 @@ use mathlib.Core.Path.{_≡_, refl, ap, _∙_}
 use mathlib.Core.List.{List}
 use lib.ListN.{length, getD, take, drop, length-set}
 use Rattle.records.specs.declared.state.Record.{Record}
-use Rattle.skaldrift.specs.Words.{records-of}
-use Rattle.skaldrift.proofs.WordLaws.{load-more, said-length, front-all}
-use Rattle.skaldrift.proofs.words.loaded.Statement.{statement}
-use Rattle.skaldrift.proofs.words.loaded.Tie as tie
-use Rattle.skaldrift.proofs.words.loaded.Reads as reads
-use Rattle.skaldrift.proofs.words.loaded.Lts as lts
+use Rattle.words.specs.Words.{records-of}
+use Rattle.words.proofs.WordLaws.{load-more, said-length, front-all}
+use Rattle.words.proofs.state_words.loaded.Statement.{statement}
+use Rattle.words.proofs.state_words.loaded.Tie as tie
+use Rattle.words.proofs.state_words.loaded.Reads as reads
+use Rattle.words.proofs.state_words.loaded.Lts as lts
 
 abbrev Inv-loop : tie.InvT-loop
 Inv-loop words records₀ i₀ records i = (i ≤ 32) × (lib.ListN.length records ≡ 32) × (take i records ≡ take i (records-of (drop 1 words)))

@@ -3,12 +3,12 @@ use Prim.Native.Nat.{_+_, _*_, _-_, _≤_}
 use native.Mathlib.Omega.{arith}
 use mathlib.Core.Path.{_≡_, refl, sym, _∙_}
 use lib.ListN.{length, getD, take, set, length-set, length-map}
-use Rattle.skaldrift.specs.Words.{words-of}
-use Rattle.skaldrift.proofs.WordLaws.{store-more, words-length, front-more, front-all}
-use Rattle.skaldrift.proofs.words.stored.Statement.{statement}
-use Rattle.skaldrift.proofs.words.stored.Tie as tie
-use Rattle.skaldrift.proofs.words.stored.Reads as reads
-use Rattle.skaldrift.proofs.words.stored.Lts as lts
+use Rattle.words.specs.Words.{words-of}
+use Rattle.words.proofs.WordLaws.{store-more, words-length, front-more, front-all}
+use Rattle.words.proofs.state_words.stored.Statement.{statement}
+use Rattle.words.proofs.state_words.stored.Tie as tie
+use Rattle.words.proofs.state_words.stored.Reads as reads
+use Rattle.words.proofs.state_words.stored.Lts as lts
 
 abbrev Inv-loop : tie.InvT-loop
 Inv-loop words₀ state i₀ words i = (i ≤ 32) × (lib.ListN.length words ≡ 65) × (lib.ListN.length (state .records) ≡ 32) × (take (1 + 2 * i) words ≡ take (1 + 2 * i) (words-of state))

@@ -5,7 +5,7 @@ use records::state::State;
 use region::WRITES_LIMIT;
 ghost use mathlib.Core.Path.{_≡_};
 ghost use lib.ListN.{length};
-ghost use Rattle.skaldrift.specs.Words.{state-words, state-of, words-of};
+ghost use Rattle.words.specs.Words.{state-words, state-of, words-of};
 
 // The words of a record, and of a state.
 const RECORD_WORDS: usize = 2;

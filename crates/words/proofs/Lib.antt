@@ -1,0 +1,2 @@
+-- The laws of the state as words.
+pub mod WordLaws
