@@ -29,7 +29,7 @@ piece-le at n log = rw (add-sub-cancel-left at n, length-take n (drop at log)) (
 
 -- what is known where r is that record
 pub record StepBy (L : ℕ) (st : State) (log-length at left : ℕ) (r : Record) : Type 0 where
-  pub index : st .count - left < 32
+  pub index : st .count - left < writes-limit
   pub lies : r .addr + r .len ≤ L
   pub has : at + r .len ≤ log-length
   pub after : Remaining L st log-length (at + r .len) (left - 1)

@@ -18,7 +18,7 @@ pub struct Record {
 
 pub struct State {
     pub count: usize,
-    pub records: [Record; 32],
+    pub records: [Record; WRITES_LIMIT],
 }
 
 // The outstanding bytes of a sound state, or that it is none.

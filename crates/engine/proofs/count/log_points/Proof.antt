@@ -59,42 +59,33 @@ added c =
     let r = next (c .before .before .before .before .args .t1) (at-loop .i) in
     omega (arith, at-loop .inv .2, next-here (c .before .before) .bytes, c .touched .ensures, touched-le (r .addr) (r .len))
 
--- src/count.rt:17:5
 loop-holds : tie.Need-loop-holds Inv-loop μ-loop
 loop-holds c = (refl, omega arith, omega arith, c .pre .inside, zero-add _)
 
--- src/count.rt:18:17
 mul-r : tie.Need-mul-r Inv-loop μ-loop
 mul-r c = omega (arith, c .before .before .pre .few)
 
--- src/count.rt:18:17
 element-copy-out-r : tie.Need-element-copy-out-r Inv-loop μ-loop
 element-copy-out-r c = omega (arith, c .before .before .pre .few)
 
--- src/count.rt:19:16
 touched-requires : tie.Need-touched-requires Inv-loop μ-loop
 touched-requires c κs = omega (arith, next-here (c .before) .lies)
 
--- src/count.rt:19:9
 add-sum : tie.Need-add-sum Inv-loop μ-loop
 add-sum c = let n = next-here (c .before .before) in
     omega (arith, added c, c .before .before .before .before .pre .room)
 
--- src/count.rt:20:9
 add-i : tie.Need-add-i Inv-loop μ-loop
 add-i c = omega arith
 
--- src/count.rt:17:5
 loop-less : tie.Need-loop-less Inv-loop μ-loop
 loop-less c = omega arith
 
--- src/count.rt:17:5
 loop-again : tie.Need-loop-again Inv-loop μ-loop
 loop-again c = let n = next-here (c .before .before) in
     let at-loop = c .before .before .before .loop in
     (refl, omega arith, added c, n .inside, omega (arith, at-loop .inv .4, n .points, c .touched .ensures))
 
--- src/count.rt:10:1
 returns : tie.Need-returns Inv-loop μ-loop
 unfolding record-points
 returns c = let at-loop = c .before .loop in

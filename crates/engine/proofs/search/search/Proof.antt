@@ -32,7 +32,6 @@ points-here c = let a = c .args in
 more-here : (c : tie.In-loop Inv-loop μ-loop) → c .before .loop .m < 2 ^ (c .before .before .before .before .before .before .before .args .points)
 more-here c = omega (arith, c .loop-test .taken, c .before .loop .inv .0)
 
--- src/search.rt:43:19
 shl-last : tie.Need-shl-last Inv-loop μ-loop
 shl-last c = omega (arith, c .before .before .before .before .before .pre .few)
 
@@ -41,27 +40,22 @@ sub-last : tie.Need-sub-last Inv-loop μ-loop
 sub-last c = let start = c .before .before .before .before .before in
     omega (arith, numbers-exact (start .args .points) (start .pre .few), pow-pos (start .args .points))
 
--- src/search.rt:45:5
 loop-holds : tie.Need-loop-holds Inv-loop μ-loop
 loop-holds c = let start = c .before .before .before .before .before in
     let a = start .args in
     (omega (arith, numbers-exact (a .points) (start .pre .few), pow-pos (a .points)), refl, tried-none (view (a .image .now) (a .state) (a .log .now)) (a .sheet .now) (a .addr) (a .bytes .now) (a .points) (points-here start) (a .work .now))
 
--- src/search.rt:46:9
 trial-requires : tie.Need-trial-requires Inv-loop μ-loop
 trial-requires c κs = let start = c .before .before .before .before .before .before .before .before in
     let a = start .args in
     subst⁻¹ (λ (n : ℕ). Ready (length (a .image .now)) (a .state) (length (a .log .now)) n (a .addr) (length (a .bytes .now)) (a .points)) (c .before .before .loop .inv .1) (start .pre)
 
--- src/search.rt:47:13
 obeyed-requires : tie.Need-obeyed-requires Inv-loop μ-loop
 obeyed-requires c κs = tt
 
--- src/search.rt:48:13
 same-length : tie.Need-same-length Inv-loop μ-loop
 same-length c = c .before .before .before .before .before .trial .kept .1 .1 .1 .0 ∙ c .before .before .before .before .before .before .before .before .loop .inv .1
 
--- src/search.rt:48:13
 returns : tie.Need-returns Inv-loop μ-loop
 returns c = let tried = c .before .before .before .before .before in
     let in-loop = tried .before .before in
@@ -69,17 +63,14 @@ returns c = let tried = c .before .before .before .before .before in
     let a = start .args in
     found-bad (view (a .image .now) (a .state) (a .log .now)) (a .sheet .now) (a .addr) (a .bytes .now) (a .points) (points-here start) (in-loop .before .loop .inv .2) (more-here in-loop) (tried .trial .ensures) (sym (c .before .obeyed .ensures) ∙ not-true (c .before .obeyed .result) (c .if1 .taken))
 
--- src/search.rt:50:9
 add-m : tie.Need-add-m Inv-loop μ-loop
 add-m c = let in-loop = c .before .before .before .before .before .before .before in
     omega (arith, in-loop .loop-test .taken)
 
--- src/search.rt:45:5
 loop-less : tie.Need-loop-less Inv-loop μ-loop
 loop-less c = let in-loop = c .before .before .before .before .before .before .before in
     omega (arith, in-loop .loop-test .taken)
 
--- src/search.rt:45:5
 loop-again : tie.Need-loop-again Inv-loop μ-loop
 loop-again c = let tried = c .before .before .before .before .before in
     let in-loop = tried .before .before in
@@ -90,11 +81,9 @@ loop-again c = let tried = c .before .before .before .before .before in
       tried-more (view (a .image .now) (a .state) (a .log .now)) (a .sheet .now) (a .addr) (a .bytes .now) (a .points) (points-here start) (in-loop .before .loop .inv .2) (more-here in-loop) (tried .trial .ensures) (sym (c .before .obeyed .ensures) ∙ not-false (c .before .obeyed .result) (c .if1 .left)),
     )
 
--- src/search.rt:30:1
 same-length-2 : tie.Need-same-length-2 Inv-loop μ-loop
 same-length-2 c = c .before .loop .inv .1
 
--- src/search.rt:30:1
 returns-2 : tie.Need-returns-2 Inv-loop μ-loop
 returns-2 c = let start = c .before .before .before .before .before .before .before in
     let a = start .args in

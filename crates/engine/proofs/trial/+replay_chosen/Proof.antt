@@ -52,41 +52,32 @@ pointed : (t : ℕ) (c : replay-chosen-lts.Else1 (claims t) (replay-chosen-at t)
 pointed t c = let a = c .before .before .before .args in
     omega (arith, c .before .before .before .pre .1 .1, points-more _ (a .t1) _ (a .at) (a .left) (c .before .before .before .pre .1 .0) (pos-of-ne-zero (c .if1 .left)))
 
--- src/trial.rt:34:9
 replay-chosen-returns : (t : ℕ) → replay-chosen-lts.Need-returns (claims t) (replay-chosen-at t) replay-chosen.Post
 unfolding flush-writes-selective
 replay-chosen-returns t c = let a = c .before .before .before .args in
     ap (λ (ws : List Write). flush-writes-selective const-persistence-chunk-size (a .work .now) ws (rows-of const-persistence-chunk-size (size-to-chunks const-persistence-chunk-size (length (a .work .now))) ws (a .m))) (sym (no-more _ (a .t1) _ (a .at) (a .left) (c .before .before .before .pre .1 .0) (c .if1 .taken) (a .log .now)))
 
--- src/trial.rt:36:13
 replay-chosen-sub-i : (t : ℕ) → replay-chosen-lts.Need-sub-i (claims t) (replay-chosen-at t) replay-chosen.Post
 replay-chosen-sub-i t c = omega arith
 
--- src/trial.rt:37:13
 replay-chosen-mul-r : (t : ℕ) → replay-chosen-lts.Need-mul-r (claims t) (replay-chosen-at t) replay-chosen.Post
 replay-chosen-mul-r t c = omega (arith, stepped t c)
 
--- src/trial.rt:37:13
 replay-chosen-element-copy-out-r : (t : ℕ) → replay-chosen-lts.Need-element-copy-out-r (claims t) (replay-chosen-at t) replay-chosen.Post
 replay-chosen-element-copy-out-r t c = stepped t c .index
 
--- src/trial.rt:38:15
 replay-chosen-add-end : (t : ℕ) → replay-chosen-lts.Need-add-end (claims t) (replay-chosen-at t) replay-chosen.Post
 replay-chosen-add-end t c = omega (arith, stepped t (c .before .before) .has)
 
--- src/trial.rt:39:30
 replay-chosen-sub-lay-chosen : (t : ℕ) → replay-chosen-lts.Need-sub-lay-chosen (claims t) (replay-chosen-at t) replay-chosen.Post
 replay-chosen-sub-lay-chosen t c = omega arith
 
--- src/trial.rt:39:30
 replay-chosen-part-lay-chosen-start : (t : ℕ) → replay-chosen-lts.Need-part-lay-chosen-start (claims t) (replay-chosen-at t) replay-chosen.Post
 replay-chosen-part-lay-chosen-start t c = omega (arith, stepped t (c .before .before .before) .has)
 
--- src/trial.rt:39:30
 replay-chosen-part-lay-chosen-end : (t : ℕ) → replay-chosen-lts.Need-part-lay-chosen-end (claims t) (replay-chosen-at t) replay-chosen.Post
 replay-chosen-part-lay-chosen-end t c = omega (arith, stepped t (c .before .before .before) .has)
 
--- src/trial.rt:39:5
 replay-chosen-lay-chosen-requires : (t : ℕ) → replay-chosen-lts.Need-lay-chosen-requires (claims t) (replay-chosen-at t) replay-chosen.Post
 replay-chosen-lay-chosen-requires t c κs = let else1 = c .before .before .before .before in
     let a = else1 .before .before .before .args in
@@ -94,19 +85,15 @@ replay-chosen-lay-chosen-requires t c κs = let else1 = c .before .before .befor
     let long : length (take (a .at + r .len - a .at) (drop (a .at) (a .log .now))) ≡ r .len = piece-length (a .at) (r .len) (a .log .now) (stepped t else1 .has) in
     (omega (arith, stepped t else1 .lies), subst⁻¹ (λ (n : ℕ). touched 8 (r .addr) n ≤ points-limit) long (omega (arith, pointed t else1)))
 
--- src/trial.rt:40:47
 replay-chosen-touched-requires : (t : ℕ) → replay-chosen-lts.Need-touched-requires (claims t) (replay-chosen-at t) replay-chosen.Post
 replay-chosen-touched-requires t c κs = omega (arith, stepped t (c .before .before .before .before .before .before .before .before) .lies)
 
--- src/trial.rt:40:42
 replay-chosen-shr-replay-chosen : (t : ℕ) → replay-chosen-lts.Need-shr-replay-chosen (claims t) (replay-chosen-at t) replay-chosen.Post
 replay-chosen-shr-replay-chosen t c = omega (arith, c .touched .ensures, pointed t (c .before .before .before .before .before .before .before .before .before))
 
--- src/trial.rt:40:71
 replay-chosen-sub-replay-chosen : (t : ℕ) → replay-chosen-lts.Need-sub-replay-chosen (claims t) (replay-chosen-at t) replay-chosen.Post
 replay-chosen-sub-replay-chosen t c = pos-of-ne-zero (c .before .before .before .before .before .before .before .before .before .if1 .left)
 
--- src/trial.rt:40:5
 replay-chosen-replay-chosen-requires : (t : ℕ) → replay-chosen-lts.Need-replay-chosen-requires (claims t) (replay-chosen-at t) replay-chosen.Post
 replay-chosen-replay-chosen-requires t c κs = let else1 = c .before .before .before .before .before .before .before .before .before in
     let start = else1 .before .before .before in
@@ -115,11 +102,9 @@ replay-chosen-replay-chosen-requires t c κs = let else1 = c .before .before .be
       (subst⁻¹ (λ (n : ℕ). Remaining n (a .t1) (length (a .log .now)) (a .at + oldest (a .t1) (a .left) .len) (a .left - 1)) (c .before .before .before .before .lay-chosen .kept .0) (stepped t else1 .after), omega (arith, pointed t else1)),
     )
 
--- src/trial.rt:21:1
 replay-chosen-same-length : (t : ℕ) → replay-chosen-lts.Need-same-length (claims t) (replay-chosen-at t) replay-chosen.Post
 replay-chosen-same-length t c = c .before .before .replay-chosen .kept .1 .1 .0 ∙ c .before .before .before .before .before .before .before .lay-chosen .kept .0
 
--- src/trial.rt:21:1
 replay-chosen-returns-2 : (t : ℕ) → replay-chosen-lts.Need-returns-2 (claims t) (replay-chosen-at t) replay-chosen.Post
 unfolding flush-writes-selective rows-of
 replay-chosen-returns-2 t c = let else1 = c .before .before .before .before .before .before .before .before .before .before .before .before in

@@ -18,11 +18,9 @@ use Rattle.replay.proofs.lay.lay.Reads as lay-reads
 use Rattle.replay.proofs.lay.lay_chosen.Reads as lay-chosen-reads
 use Rattle.replay.proofs.points.touched.Reads as touched-reads
 
--- src/trial.rt:57:5
 lay-requires : tie.Need-lay-requires
 lay-requires c κs = search needs
 
--- src/trial.rt:58:5
 replay-chosen-requires : tie.Need-replay-chosen-requires
 replay-chosen-requires c κs = let start = c .before .before .before .before .before .before .before .before .before in
     let a = start .args in (
@@ -30,27 +28,21 @@ replay-chosen-requires c κs = let start = c .before .before .before .before .be
       omega (arith, all-points 8 (a .state), start .pre .counted, start .pre .few),
     )
 
--- src/trial.rt:59:26
 touched-requires : tie.Need-touched-requires
 touched-requires c κs = search needs
 
--- src/trial.rt:59:17
 sub-older : tie.Need-sub-older
 sub-older c = search needs
 
--- src/trial.rt:60:35
 shr-lay-chosen : tie.Need-shr-lay-chosen
 shr-lay-chosen c = search needs
 
--- src/trial.rt:60:5
 lay-chosen-requires : tie.Need-lay-chosen-requires
 lay-chosen-requires c κs = search needs
 
--- src/trial.rt:44:1
 same-length : tie.Need-same-length
 same-length c = search needs
 
--- src/trial.rt:44:1
 returns : tie.Need-returns
 returns c = let start = c .before .before .before .before .before .before .before .before .before .before .before .before .before .before .before .before .before in
     let a = start .args in

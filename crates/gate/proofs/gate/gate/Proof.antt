@@ -26,83 +26,65 @@ admitted-here : (c : tie.After-enum-told2) → judge-number (c .before .before .
 admitted-here c = let a = c .before .before .before .before .before .before .before .before .before .before .before .before .before .before .before .before .args in
     admitted-number (a .image .now) (a .state) (a .log .now) (a .sheet .now) (a .work .now) (a .addr) (a .bytes .now) (c .before .before .before .before .decide .ensures) (c .enum-told2 .given .1)
 
--- src/gate.rt:28:36
 checked-requires : tie.Need-checked-requires
 checked-requires c κs = search needs
 
--- src/gate.rt:28:28
 enum-known-used : tie.Need-enum-known-used
 enum-known-used c = search needs
 
--- src/gate.rt:30:39
 enum-told : tie.Need-enum-told
 enum-told c = search needs
 
--- src/gate.rt:29:9
 returns : tie.Need-returns
 returns c = let a = c .before .before .before .before .before .before .before .before .args in
     gates-refused (a .image .now) (a .state) (a .log .now) (a .sheet .now) (a .work .now) (a .addr) (a .bytes .now) (judges-refused (a .image .now) (a .state) (a .log .now) (a .sheet .now) (a .work .now) (a .addr) (a .bytes .now) BadState (judgement-unsound (a .image .now) (a .state) (a .log .now) (a .sheet .now) (a .work .now) (a .addr) (a .bytes .now) (told-unsound _ (a .state) _ (c .before .before .checked .ensures .0) (c .enum-told .given .1)))) refl
 
--- src/gate.rt:34:9
 decide-requires : tie.Need-decide-requires
 decide-requires c κs = let a = c .before .before .before .before .before .before .before .before .before .before .before .args in
     let told = told-here (c .before .before) in
     record { sized = c .before .before .before .before .before .checked .ensures .1; good = told .good; counted = told .counted }
 
--- src/gate.rt:38:36
 enum-told-2 : tie.Need-enum-told-2
 enum-told-2 c = search needs
 
--- src/gate.rt:38:20
 recorded-requires : tie.Need-recorded-requires
 recorded-requires c κs = let a = c .before .before .before .before .before .before .before .before .before .before .before .before .before .before .before .before .before .args in
     let told = told-here (c .before .before .before .before .before .before .before .before) in
     let fits = number-0-fits (a .image .now) (a .state) (a .log .now) (a .sheet .now) (a .work .now) (a .addr) (a .bytes .now) (admitted-here (c .before)) .0 in
     (fits .few-writes, omega (arith, told .counted, told .facts .buffer, fits .few-bytes))
 
--- src/gate.rt:40:31
 enum-told-3 : tie.Need-enum-told-3
 enum-told-3 c = search needs
 
--- src/gate.rt:41:32
 enum-told-4 : tie.Need-enum-told-4
 enum-told-4 c = search needs
 
--- src/gate.rt:17:1
 same-length : tie.Need-same-length
 same-length c = search needs
 
--- src/gate.rt:17:1
 same-length-2 : tie.Need-same-length-2
 same-length-2 c = search needs
 
--- src/gate.rt:17:1
 returns-2 : tie.Need-returns-2
 returns-2 c = let a = c .before .before .before .before .before .before .before .before .before .before .before .before .before .before .before .before .before .before .before .before .args in
     gates-admitted (a .image .now) (a .state) (a .log .now) (a .sheet .now) (a .work .now) (a .addr) (a .bytes .now) (c .before .before .before .before .before .before .before .before .decide .ensures) (admitted-here (c .before .before .before .before)) (c .before .before .recorded .ensures .0) (c .before .before .recorded .ensures .1 ∙ ap (λ (n : ℕ). update-bytes (a .log .now) n (a .bytes .now)) (told-here (c .before .before .before .before .before .before .before .before .before .before .before) .counted))
 
--- src/gate.rt:17:1
 same-length-3 : tie.Need-same-length-3
 same-length-3 c = search needs
 
--- src/gate.rt:17:1
 same-length-4 : tie.Need-same-length-4
 same-length-4 c = search needs
 
--- src/gate.rt:17:1
 returns-3 : tie.Need-returns-3
 returns-3 c = let a = c .before .before .before .before .before .before .before .before .before .before .before .before .before .before .before .before .args in
     gates-denied (a .image .now) (a .state) (a .log .now) (a .sheet .now) (a .work .now) (a .addr) (a .bytes .now) (c .before .before .before .before .decide .ensures) (c .enum-told3 .given .1)
 
--- src/gate.rt:17:1
 same-length-5 : tie.Need-same-length-5
 same-length-5 c = search needs
 
--- src/gate.rt:17:1
 same-length-6 : tie.Need-same-length-6
 same-length-6 c = search needs
 
--- src/gate.rt:17:1
 returns-4 : tie.Need-returns-4
 returns-4 c = let a = c .before .before .before .before .before .before .before .before .before .before .before .before .before .before .before .before .args in
     gates-refused (a .image .now) (a .state) (a .log .now) (a .sheet .now) (a .work .now) (a .addr) (a .bytes .now) (c .before .before .before .before .decide .ensures) (c .enum-told4 .given .1)

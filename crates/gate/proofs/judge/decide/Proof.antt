@@ -23,53 +23,43 @@ use Rattle.writelog.proofs.write.room.Reads as room-reads
 formed-here : (c : tie.Else2) → well-formed (c .before .before .before .before .before .before .before .before .args .sheet .now) ≡ true
 formed-here c = sym (c .before .formed .ensures) ∙ not-false (c .before .formed .result) (c .if2 .left)
 
--- src/judge.rt:69:9
 returns : tie.Need-returns
 returns c = let a = c .before .before .before .before .before .before .args in
     judges-refused (a .image .now) (a .state) (a .log .now) (a .sheet .now) (a .work .now) (a .addr) (a .bytes .now) BadState (judgement-other-length (a .image .now) (a .state) (a .log .now) (a .sheet .now) (a .work .now) (a .addr) (a .bytes .now) (c .if1 .taken))
 
--- src/judge.rt:71:9
 formed-requires : tie.Need-formed-requires
 formed-requires c κs = search needs
 
--- src/judge.rt:72:9
 returns-2 : tie.Need-returns-2
 returns-2 c = let start = c .before .before .before .before .before .before .before .before in
     let a = start .args in
     judges-refused (a .image .now) (a .state) (a .log .now) (a .sheet .now) (a .work .now) (a .addr) (a .bytes .now) BadSheet (judgement-malformed (a .image .now) (a .state) (a .log .now) (a .sheet .now) (a .work .now) (a .addr) (a .bytes .now) (start .pre .good) (c .before .before .if1 .left) (sym (c .before .formed .ensures) ∙ not-true (c .before .formed .result) (c .if2 .taken)))
 
--- src/judge.rt:74:11
 room-requires : tie.Need-room-requires
 room-requires c κs = let start = c .before .before .before .before .before .before .before .before in
     (start .pre .counted, omega (arith, start .pre .counted, sound-facts _ (start .args .state) _ (start .pre .good) .room))
 
--- src/judge.rt:75:25
 enum-known-why : tie.Need-enum-known-why
 enum-known-why c = search needs
 
--- src/judge.rt:76:57
 enum-told : tie.Need-enum-told
 enum-told c = search needs
 
--- src/judge.rt:76:25
 weigh-requires : tie.Need-weigh-requires
 weigh-requires c κs = let start = c .before .before .before .before .before .before .before .before .before .before .before .before in
     let a = start .args in
     let room = room-done (length (a .image .now)) (a .state) (a .addr) (length (a .bytes .now)) (sym (c .before .before .before .room .ensures) ∙ ap answer-number (c .before .enum-told .given .1)) in
     record { sized = start .pre .sized; good = start .pre .good; same = c .before .before .before .before .before .before .if1 .left; lies = room .lies }
 
--- src/judge.rt:55:1
 returns-3 : tie.Need-returns-3
 returns-3 c = let start = c .before .before .before .before .before .before .before .before .before .before .before .before in
     let a = start .args in
     let why = c .before .why .given .0 .0 in
     judges-refused (a .image .now) (a .state) (a .log .now) (a .sheet .now) (a .work .now) (a .addr) (a .bytes .now) why (judgement-no-room (a .image .now) (a .state) (a .log .now) (a .sheet .now) (a .work .now) (a .addr) (a .bytes .now) (start .pre .good) (c .before .before .before .before .before .before .if1 .left) (formed-here (c .before .before .before .before)) why (sym (c .before .before .before .room .ensures) ∙ ap answer-number (c .before .why .given .1)))
 
--- src/judge.rt:55:1
 same-length : tie.Need-same-length
 same-length c = search needs
 
--- src/judge.rt:55:1
 returns-4 : tie.Need-returns-4
 returns-4 c = let start = c .before .before .before .before .before .before .before .before .before .before .before .before .before .before .before in
     let a = start .args in

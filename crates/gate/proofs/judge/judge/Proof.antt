@@ -10,35 +10,28 @@ use Rattle.gate.proofs.judge.judge.Lts as lts
 use Rattle.gate.proofs.judge.decide.Reads as decide-reads
 use Rattle.records.proofs.state.checked.Reads as checked-reads
 
--- src/judge.rt:92:36
 checked-requires : tie.Need-checked-requires
 checked-requires c κs = search needs
 
--- src/judge.rt:92:28
 enum-known-used : tie.Need-enum-known-used
 enum-known-used c = search needs
 
--- src/judge.rt:93:33
 enum-told : tie.Need-enum-told
 enum-told c = search needs
 
--- src/judge.rt:93:9
 returns : tie.Need-returns
 returns c = let a = c .before .before .before .before .before .before .before .before .args in
     judges-refused (a .image .now) (a .state) (a .log .now) (a .sheet .now) (a .work .now) (a .addr) (a .bytes .now) BadState (judgement-unsound (a .image .now) (a .state) (a .log .now) (a .sheet .now) (a .work .now) (a .addr) (a .bytes .now) (told-unsound _ (a .state) _ (c .before .before .checked .ensures .0) (c .enum-told .given .1)))
 
--- src/judge.rt:95:5
 decide-requires : tie.Need-decide-requires
 decide-requires c κs = let a = c .before .before .before .before .before .before .before .before .before .before .args in
     let checked = c .before .before .before .before .checked in
     let told = told-bytes _ (a .state) _ (checked .ensures .0) (c .before .before .used .given .1) in
     record { sized = checked .ensures .1; good = told .good; counted = told .counted }
 
--- src/judge.rt:81:1
 same-length : tie.Need-same-length
 same-length c = search needs
 
--- src/judge.rt:81:1
 returns-2 : tie.Need-returns-2
 returns-2 c = search needs
 

@@ -29,55 +29,44 @@ points-here c = let start = c .before .before .before .before .before .before .b
     let a = start .args in
     ap₂ (_+_) (c .before .log-points .ensures) (c .touched .ensures) ∙ sym (points-with-a-write (a .image .now) (a .state) (a .log .now) (a .addr) (a .bytes .now) (start .pre .good))
 
--- src/judge.rt:44:13
 log-points-requires : tie.Need-log-points-requires
 log-points-requires c κs = let start = c .before .before .before .before .before in
     let facts = facts-here start in
     record { sized = start .pre .sized; few = facts .few; inside = inside-longer _ image-limit (log-records (start .args .state)) (facts .short) (facts .inside); room = facts .room }
 
--- src/judge.rt:44:33
 touched-requires : tie.Need-touched-requires
 touched-requires c κs = search needs
 
--- src/judge.rt:44:13
 add-n : tie.Need-add-n
 add-n c = let start = c .before .before .before .before .before .before .before in
     let a = start .args in
     let facts = facts-here start in
     omega (arith, c .touched .ensures, c .before .log-points .ensures, record-points-le (log-records (a .state)), facts .room, facts .short, touched-le (a .addr) (length (a .bytes .now)), start .pre .lies)
 
--- src/judge.rt:46:9
 returns : tie.Need-returns
 returns c = let a = c .before .before .before .before .before .before .before .before .args in
     weighs-many (a .image .now) (a .state) (a .log .now) (a .sheet .now) (a .work .now) (a .addr) (a .bytes .now) (subst (λ (n : ℕ). points-limit < n) (points-here (c .before)) (c .if1 .taken))
 
--- src/judge.rt:48:11
 search-requires : tie.Need-search-requires
 search-requires c κs = search needs
 
--- src/judge.rt:49:29
 enum-told : tie.Need-enum-told
 enum-told c = search needs
 
--- src/judge.rt:50:27
 enum-known-m : tie.Need-enum-known-m
 enum-known-m c = search needs
 
--- src/judge.rt:32:1
 same-length : tie.Need-same-length
 same-length c = search needs
 
--- src/judge.rt:32:1
 returns-2 : tie.Need-returns-2
 returns-2 c = let a = c .before .before .before .before .before .before .before .before .before .before .before .before .before .before .args in
     let counted = points-here (c .before .before .before .before .before .before .before) in
     weighs-admitted (a .image .now) (a .state) (a .log .now) (a .sheet .now) (a .work .now) (a .addr) (a .bytes .now) (subst (λ (n : ℕ). n ≤ points-limit) counted (c .before .before .before .before .before .before .if1 .left)) (c .before .before .before .before .search .ensures) (c .enum-told .given .1) counted
 
--- src/judge.rt:32:1
 same-length-2 : tie.Need-same-length-2
 same-length-2 c = search needs
 
--- src/judge.rt:32:1
 returns-3 : tie.Need-returns-3
 returns-3 c = let a = c .before .before .before .before .before .before .before .before .before .before .before .before .before .before .before .args in
     weighs-denied (a .image .now) (a .state) (a .log .now) (a .sheet .now) (a .work .now) (a .addr) (a .bytes .now) (subst (λ (n : ℕ). n ≤ points-limit) (points-here (c .before .before .before .before .before .before .before .before)) (c .before .before .before .before .before .before .before .if1 .left)) (c .before .before .before .before .before .search .ensures) (c .before .m .given .1)

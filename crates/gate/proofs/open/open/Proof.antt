@@ -11,48 +11,38 @@ use Rattle.gate.proofs.open.open.Lts as lts
 use Rattle.gate.proofs.open.fresh.Reads as fresh-reads
 use Rattle.sheet.proofs.judge.Reads as judge-reads
 
--- src/open.rt:33:9
 returns : tie.Need-returns
 returns c = let a = c .before .before .before .before .args in
     opens-refused (a .image .now) (a .log .now) (a .sheet .now) (a .state) BadState (open-long (a .image .now) (a .log .now) (a .sheet .now) (c .if1 .taken))
 
--- src/open.rt:39:9
 returns-2 : tie.Need-returns-2
 returns-2 c = let a = c .before .before .before .before .before .args in
     opens-refused (a .image .now) (a .log .now) (a .sheet .now) (a .state) BadState (open-other-log (a .image .now) (a .log .now) (a .sheet .now) (c .if2 .taken))
 
--- src/open.rt:44:11
 judge-requires : tie.Need-judge-requires
 judge-requires c κs = search needs
 
--- src/open.rt:46:37
 enum-told : tie.Need-enum-told
 enum-told c = search needs
 
--- src/open.rt:50:37
 enum-told-2 : tie.Need-enum-told-2
 enum-told-2 c = search needs
 
--- src/open.rt:54:21
 enum-told-3 : tie.Need-enum-told-3
 enum-told-3 c = search needs
 
--- src/open.rt:55:20
 fresh-requires : tie.Need-fresh-requires
 fresh-requires c κs = search needs
 
--- src/open.rt:29:1
 returns-3 : tie.Need-returns-3
 returns-3 c = let a = c .before .before .before .before .before .before .before .before .args in
     opens-refused (a .image .now) (a .log .now) (a .sheet .now) (a .state) BadSheet (open-malformed (a .image .now) (a .log .now) (a .sheet .now) (c .before .before .before .before .if1 .left) (c .before .before .before .if2 .left) (malformed-iff (a .sheet .now) (a .image .now) .0 (sym (c .before .before .judge .ensures) ∙ c .enum-told .given .1)))
 
--- src/open.rt:29:1
 returns-4 : tie.Need-returns-4
 returns-4 c = let a = c .before .before .before .before .before .before .before .before .args in
     let broken = breaks-iff (a .sheet .now) (a .image .now) (a .image .now) .0 (sym (c .before .before .judge .ensures) ∙ c .enum-told2 .given .1) in
     opens-refused (a .image .now) (a .log .now) (a .sheet .now) (a .state) BrokenImage (open-broken (a .image .now) (a .log .now) (a .sheet .now) (c .before .before .before .before .if1 .left) (c .before .before .before .if2 .left) (broken .0) (broken .1))
 
--- src/open.rt:29:1
 returns-5 : tie.Need-returns-5
 returns-5 c = let a = c .before .before .before .before .before .before .before .before .before .args in
     let obeyed = obeys-iff (a .sheet .now) (a .image .now) (a .image .now) .0 (sym (c .before .before .before .judge .ensures) ∙ c .before .enum-told3 .given .1) in

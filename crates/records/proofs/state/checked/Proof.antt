@@ -1,3 +1,6 @@
+-- `records::state::checked` meets its contract: the bytes counted so far and those of the records to come are those of the log, and the log lies inside if
+-- the records to come do. Assumes nothing.
+use Rattle.region.specs.Limits.{image-limit, writes-limit, log-limit}
 use Rattle.records.proofs.Soundness.{Sound, facts-sound, facts-unsound}
 use Rattle.records.proofs.Records.{next, rest, together-more, inside-more, records-none}
 use Rattle.records.specs.declared.state.Outstanding.the-variants.{Bytes, Unsound}
@@ -20,7 +23,7 @@ use Rattle.records.proofs.state.checked.Lts as lts
 use Rattle.records.proofs.state.within.Reads as within-reads
 
 abbrev Inv-loop : tie.InvT-loop
-Inv-loop image log state count used₀ i₀ used i = (count ≡ state .count) × (count ≤ 32) × (i ≤ count) × (image ≤ 4096) × (log ≡ 1024) × (used ≤ 1024)
+Inv-loop image log state count used₀ i₀ used i = (count ≡ state .count) × (count ≤ writes-limit) × (i ≤ count) × (image ≤ image-limit) × (log ≡ log-limit) × (used ≤ log-limit)
     × (used + together (drop i (log-records state)) ≡ together (log-records state))
     × (records-inside image (log-records state) ≡ records-inside image (drop i (log-records state)))
 
@@ -28,37 +31,30 @@ abbrev μ-loop : tie.MeasureT-loop
 μ-loop image log state count used₀ i₀ used i = count - i
 
 -- an array has its type's length
-length-is : (c : tie.Start Inv-loop μ-loop) → length (c .args .t1 .records) ≡ 32
+length-is : (c : tie.Start Inv-loop μ-loop) → length (c .args .t1 .records) ≡ writes-limit
 length-is c = sym (length-map (c .args .t1 .records) _) ∙ c .good .0 .1 .1 .1 .0 .1 .0 .1
 
 unsound : (c : tie.Start Inv-loop μ-loop) → (Sound (c .args .image) (c .args .t1) (c .args .log) → ⊥) → Unsound ≡ cond (sound (c .args .image) (c .args .t1) (c .args .log)) (Bytes (together (log-records (c .args .t1)))) Unsound
 unsound c n = sym (cond-unless (sound (c .args .image) (c .args .t1) (c .args .log)) (Bytes (together (log-records (c .args .t1)))) Unsound (facts-unsound (c .args .image) (c .args .t1) (c .args .log) n))
 
--- src/state.rt:45:9
 returns : tie.Need-returns Inv-loop μ-loop
 returns c = (unsound (c .before) (λ s. omega arith), length-is (c .before))
 
--- src/state.rt:48:9
 returns-2 : tie.Need-returns-2 Inv-loop μ-loop
 returns-2 c = (unsound (c .before .before) (λ s. c .if2 .taken (s .buffer)), length-is (c .before .before))
 
--- src/state.rt:52:9
 returns-3 : tie.Need-returns-3 Inv-loop μ-loop
 returns-3 c = (unsound (c .before .before .before) (λ s. omega arith), length-is (c .before .before .before))
 
--- src/state.rt:56:5
 loop-holds : tie.Need-loop-holds Inv-loop μ-loop
 loop-holds c = (refl, omega arith, omega arith, omega arith, c .before .if2 .left, omega arith, zero-add _, refl)
 
--- src/state.rt:57:17
 mul-r : tie.Need-mul-r Inv-loop μ-loop
 mul-r c = omega arith
 
--- src/state.rt:57:17
 element-copy-out-r : tie.Need-element-copy-out-r Inv-loop μ-loop
 element-copy-out-r c = omega arith
 
--- src/state.rt:58:13
 within-requires : tie.Need-within-requires Inv-loop μ-loop
 within-requires c κs = tt
 
@@ -78,35 +74,28 @@ lie-inside c =
     let few : st .count ≤ length (st .records) = omega (arith, length-is (c .before .before .before .before .before)) in
     at-loop .inv .7 ∙ inside-more st (at-loop .i) (c .loop-test .taken) few (c .before .before .before .before .before .args .image)
 
--- src/state.rt:59:13
 returns-4 : tie.Need-returns-4 Inv-loop μ-loop
 returns-4 c = let start = c .before .before .before .before .before .before .before .before in
     let bad : c .before .within .result ≡ false = not-true (c .before .within .result) (c .if4 .taken) in
     (unsound start (λ s. false≢true (sym (lie-inside (c .before .before .before) ∙ and-unless _ _ (sym (c .before .within .ensures) ∙ bad)) ∙ s .inside)), length-is start)
 
--- src/state.rt:61:12
 sub-if5 : tie.Need-sub-if5 Inv-loop μ-loop
 sub-if5 c = omega arith
 
--- src/state.rt:62:13
 returns-5 : tie.Need-returns-5 Inv-loop μ-loop
 returns-5 c = let in-loop = c .before .before .before .before .before in
     let start = in-loop .before .before .before .before .before in
     (unsound start (λ s. omega (arith, counted in-loop, s .room)), length-is start)
 
--- src/state.rt:64:9
 add-used : tie.Need-add-used Inv-loop μ-loop
 add-used c = omega (arith, counted (c .before .before .before .before .before .before))
 
--- src/state.rt:65:9
 add-i : tie.Need-add-i Inv-loop μ-loop
 add-i c = omega arith
 
--- src/state.rt:56:5
 loop-less : tie.Need-loop-less Inv-loop μ-loop
 loop-less c = omega arith
 
--- src/state.rt:56:5
 loop-again : tie.Need-loop-again Inv-loop μ-loop
 loop-again c = let in-loop = c .before .before .before .before .before .before in
     let within = c .before .before .before .before .within in
@@ -114,7 +103,6 @@ loop-again c = let in-loop = c .before .before .before .before .before .before i
     let good : within .result ≡ true = not-false (within .result) (c .before .before .before .if4 .left) in
     (refl, at-loop .inv .1, omega arith, at-loop .inv .3, at-loop .inv .4, omega arith, omega (arith, counted in-loop), lie-inside in-loop ∙ and-when _ _ (sym (within .ensures) ∙ good))
 
--- src/state.rt:41:1
 returns-6 : tie.Need-returns-6 Inv-loop μ-loop
 unfolding together records-inside
 returns-6 c = let at-loop = c .before .loop in

@@ -1,3 +1,4 @@
+-- `replay::lay::lay_chosen` meets its contract. Invariant: the first j bytes are laid where the row of m keeps their chunk. Assumes nothing.
 use Rattle.replay.proofs.ChoiceBits.{byte-touches, chosen-bit}
 use Rattle.replay.proofs.Laid.{lay, lay-none, lay-kept, lay-lost}
 use Rattle.replay.specs.Choice.{bit, row-of}
@@ -28,45 +29,35 @@ Inv-loop work₀ addr bytes m first j₀ work j = (j ≤ length bytes) × (lengt
 abbrev μ-loop : tie.MeasureT-loop
 μ-loop work₀ addr bytes m first j₀ work j = length bytes - j
 
--- src/lay.rt:49:5
 loop-holds : tie.Need-loop-holds Inv-loop μ-loop
 loop-holds c = let a = c .args in
     (omega arith, refl, sym (lay-none (chosen (a .work .now) (a .addr) (a .bytes .now) (a .m)) (a .work .now) (a .addr)))
 
--- src/lay.rt:50:20
 add-if1 : tie.Need-add-if1 Inv-loop μ-loop
 add-if1 c = omega arith
 
--- src/lay.rt:50:19
 sub-if1 : tie.Need-sub-if1 Inv-loop μ-loop
 sub-if1 c = omega arith
 
--- src/lay.rt:50:13
 shr-if1 : tie.Need-shr-if1 Inv-loop μ-loop
 shr-if1 c = let a = c .before .before .args in
     omega (arith, byte-touches (a .addr) (length (a .bytes .now)) (c .before .loop .j) (c .loop-test .taken))
 
--- src/lay.rt:51:30
 shared-slice-read-work : tie.Need-shared-slice-read-work Inv-loop μ-loop
 shared-slice-read-work c = omega arith
 
--- src/lay.rt:51:18
 add-work : tie.Need-add-work Inv-loop μ-loop
 add-work c = omega arith
 
--- src/lay.rt:51:13
 slice-write-work : tie.Need-slice-write-work Inv-loop μ-loop
 slice-write-work c = omega arith
 
--- src/lay.rt:53:9
 add-j : tie.Need-add-j Inv-loop μ-loop
 add-j c = omega arith
 
--- src/lay.rt:49:5
 loop-less : tie.Need-loop-less Inv-loop μ-loop
 loop-less c = omega arith
 
--- src/lay.rt:49:5
 loop-again : tie.Need-loop-again Inv-loop μ-loop
 loop-again c = let at-loop = c .before .before .loop in
     let a = c .before .before .before .args in
@@ -88,11 +79,9 @@ loop-again c = let at-loop = c .before .before .loop in
     ))
     (c .if1 .came)
 
--- src/lay.rt:42:1
 same-length : tie.Need-same-length Inv-loop μ-loop
 same-length c = c .before .loop .inv .1
 
--- src/lay.rt:42:1
 returns : tie.Need-returns Inv-loop μ-loop
 unfolding apply-write-selective lay
 returns c = let a = c .before .before .args in

@@ -12,44 +12,34 @@ use Rattle.words.proofs.reports.verdict_number.Reads as verdict-number-reads
 use Rattle.words.proofs.state_words.loaded.Reads as loaded-reads
 use Rattle.words.proofs.state_words.stored.Reads as stored-reads
 
--- src/gate_calls.rt:84:9
 refusal-number-requires : tie.Need-refusal-number-requires
 refusal-number-requires c κs = search needs
 
--- src/gate_calls.rt:84:9
 returns : tie.Need-returns
 returns c = let a = c .before .before .before .before .before .before .before .before .args in
     gate-wrong (a .state .now) (a .image .now) (a .log .now) (a .sheet .now) (a .work .now) (a .addr) (a .«data» .now) (a .report .now) (c .before .if1 .taken) (c .refusal-number .ensures)
 
--- src/gate_calls.rt:86:21
 loaded-requires : tie.Need-loaded-requires
 loaded-requires c κs = search needs
 
--- src/gate_calls.rt:86:9
 gate-requires : tie.Need-gate-requires
 gate-requires c κs = search needs
 
--- src/gate_calls.rt:87:5
 stored-requires : tie.Need-stored-requires
 stored-requires c κs = search needs
 
--- src/gate_calls.rt:89:5
 verdict-number-requires : tie.Need-verdict-number-requires
 verdict-number-requires c κs = search needs
 
--- src/gate_calls.rt:70:1
 same-length : tie.Need-same-length
 same-length c = search needs
 
--- src/gate_calls.rt:70:1
 same-length-2 : tie.Need-same-length-2
 same-length-2 c = search needs
 
--- src/gate_calls.rt:70:1
 same-length-3 : tie.Need-same-length-3
 same-length-3 c = search needs
 
--- src/gate_calls.rt:70:1
 returns-2 : tie.Need-returns-2
 returns-2 c = let at-stored = c .before .before .before .before in
     let at-gate = at-stored .before .before .before .before .before .before in

@@ -11,32 +11,25 @@ use Rattle.region.proofs.numbers.refusal_number.Reads as refusal-number-reads
 use Rattle.words.proofs.reports.verdict_number.Reads as verdict-number-reads
 use Rattle.words.proofs.state_words.loaded.Reads as loaded-reads
 
--- src/gate_calls.rt:63:9
 refusal-number-requires : tie.Need-refusal-number-requires
 refusal-number-requires c κs = search needs
 
--- src/gate_calls.rt:63:9
 returns : tie.Need-returns
 returns c = let a = c .before .before .before .before .before .before .before .before .args in
     judge-wrong (a .state .now) (a .image .now) (a .log .now) (a .sheet .now) (a .work .now) (a .addr) (a .«data» .now) (a .report .now) (c .before .if1 .taken) (c .refusal-number .ensures)
 
--- src/gate_calls.rt:65:25
 loaded-requires : tie.Need-loaded-requires
 loaded-requires c κs = search needs
 
--- src/gate_calls.rt:65:9
 judge-requires : tie.Need-judge-requires
 judge-requires c κs = search needs
 
--- src/gate_calls.rt:66:5
 verdict-number-requires : tie.Need-verdict-number-requires
 verdict-number-requires c κs = search needs
 
--- src/gate_calls.rt:49:1
 same-length : tie.Need-same-length
 same-length c = search needs
 
--- src/gate_calls.rt:49:1
 returns-2 : tie.Need-returns-2
 returns-2 c = let at-judge = c .before .before .before .before in
     let at-loaded = at-judge .before .before in

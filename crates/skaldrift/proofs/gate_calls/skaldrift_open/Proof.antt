@@ -12,36 +12,28 @@ use Rattle.region.proofs.numbers.refusal_number.Reads as refusal-number-reads
 use Rattle.words.proofs.state_words.loaded.Reads as loaded-reads
 use Rattle.words.proofs.state_words.stored.Reads as stored-reads
 
--- src/gate_calls.rt:23:9
 refusal-number-requires : tie.Need-refusal-number-requires
 refusal-number-requires c κs = search needs
 
--- src/gate_calls.rt:23:9
 returns : tie.Need-returns
 returns c = let a = c .before .before .before .before .before .before .args in
     open-wrong (a .state .now) (a .image .now) (a .log .now) (a .sheet .now) (c .before .if1 .taken) (c .refusal-number .ensures)
 
--- src/gate_calls.rt:25:21
 loaded-requires : tie.Need-loaded-requires
 loaded-requires c κs = search needs
 
--- src/gate_calls.rt:25:9
 open-requires : tie.Need-open-requires
 open-requires c κs = search needs
 
--- src/gate_calls.rt:26:5
 stored-requires : tie.Need-stored-requires
 stored-requires c κs = search needs
 
--- src/gate_calls.rt:28:5
 answer-number-requires : tie.Need-answer-number-requires
 answer-number-requires c κs = search needs
 
--- src/gate_calls.rt:18:1
 same-length : tie.Need-same-length
 same-length c = search needs
 
--- src/gate_calls.rt:18:1
 returns-2 : tie.Need-returns-2
 returns-2 c = let at-stored = c .before .before .before in
     let at-open = at-stored .before .before in

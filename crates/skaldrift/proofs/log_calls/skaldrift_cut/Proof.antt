@@ -12,40 +12,31 @@ use Rattle.words.proofs.state_words.loaded.Reads as loaded-reads
 use Rattle.words.proofs.state_words.stored.Reads as stored-reads
 use Rattle.writelog.proofs.cut.cut.Reads as cut-reads
 
--- src/log_calls.rt:103:9
 refusal-number-requires : tie.Need-refusal-number-requires
 refusal-number-requires c κs = search needs
 
--- src/log_calls.rt:103:9
 returns : tie.Need-returns
 returns c = let a = c .before .before .before .before .before .before .args in
     cut-wrong (a .state .now) (a .image .now) (a .log .now) (a .rows .now) (a .report .now) (c .before .if1 .taken) (c .refusal-number .ensures)
 
--- src/log_calls.rt:105:20
 loaded-requires : tie.Need-loaded-requires
 loaded-requires c κs = search needs
 
--- src/log_calls.rt:105:9
 cut-requires : tie.Need-cut-requires
 cut-requires c κs = search needs
 
--- src/log_calls.rt:106:5
 stored-requires : tie.Need-stored-requires
 stored-requires c κs = search needs
 
--- src/log_calls.rt:108:5
 cut-number-requires : tie.Need-cut-number-requires
 cut-number-requires c κs = search needs
 
--- src/log_calls.rt:92:1
 same-length : tie.Need-same-length
 same-length c = search needs
 
--- src/log_calls.rt:92:1
 same-length-2 : tie.Need-same-length-2
 same-length-2 c = search needs
 
--- src/log_calls.rt:92:1
 returns-2 : tie.Need-returns-2
 returns-2 c = let at-stored = c .before .before .before .before in
     let at-cut = at-stored .before .before .before .before in

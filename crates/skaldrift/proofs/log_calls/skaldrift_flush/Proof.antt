@@ -12,40 +12,31 @@ use Rattle.words.proofs.state_words.loaded.Reads as loaded-reads
 use Rattle.words.proofs.state_words.stored.Reads as stored-reads
 use Rattle.writelog.proofs.flush.flush.Reads as flush-reads
 
--- src/log_calls.rt:70:9
 refusal-number-requires : tie.Need-refusal-number-requires
 refusal-number-requires c κs = search needs
 
--- src/log_calls.rt:70:9
 returns : tie.Need-returns
 returns c = let a = c .before .before .before .before .before .args in
     flush-wrong (a .state .now) (a .image .now) (a .log .now) (c .before .if1 .taken) (c .refusal-number .ensures)
 
--- src/log_calls.rt:72:22
 loaded-requires : tie.Need-loaded-requires
 loaded-requires c κs = search needs
 
--- src/log_calls.rt:72:9
 flush-requires : tie.Need-flush-requires
 flush-requires c κs = search needs
 
--- src/log_calls.rt:73:5
 stored-requires : tie.Need-stored-requires
 stored-requires c κs = search needs
 
--- src/log_calls.rt:75:5
 answer-number-requires : tie.Need-answer-number-requires
 answer-number-requires c κs = search needs
 
--- src/log_calls.rt:65:1
 same-length : tie.Need-same-length
 same-length c = search needs
 
--- src/log_calls.rt:65:1
 same-length-2 : tie.Need-same-length-2
 same-length-2 c = search needs
 
--- src/log_calls.rt:65:1
 returns-2 : tie.Need-returns-2
 returns-2 c = let at-stored = c .before .before .before in
     let at-flush = at-stored .before .before .before .before in

@@ -11,32 +11,25 @@ use Rattle.region.proofs.numbers.refusal_number.Reads as refusal-number-reads
 use Rattle.words.proofs.state_words.loaded.Reads as loaded-reads
 use Rattle.writelog.proofs.read.read_fill.Reads as read-fill-reads
 
--- src/log_calls.rt:59:9
 refusal-number-requires : tie.Need-refusal-number-requires
 refusal-number-requires c κs = search needs
 
--- src/log_calls.rt:59:9
 returns : tie.Need-returns
 returns c = let a = c .before .before .before .before .before .before .args in
     read-wrong (a .state .now) (a .image .now) (a .log .now) (a .work .now) (a .addr) (a .len) (c .before .if1 .taken) (c .refusal-number .ensures)
 
--- src/log_calls.rt:61:29
 loaded-requires : tie.Need-loaded-requires
 loaded-requires c κs = search needs
 
--- src/log_calls.rt:61:19
 read-fill-requires : tie.Need-read-fill-requires
 read-fill-requires c κs = search needs
 
--- src/log_calls.rt:61:5
 answer-number-requires : tie.Need-answer-number-requires
 answer-number-requires c κs = search needs
 
--- src/log_calls.rt:47:1
 same-length : tie.Need-same-length
 same-length c = search needs
 
--- src/log_calls.rt:47:1
 returns-2 : tie.Need-returns-2
 returns-2 c = let at-read = c .before .before .before in
     let at-loaded = at-read .before .before in

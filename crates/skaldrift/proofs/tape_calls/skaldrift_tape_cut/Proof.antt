@@ -12,44 +12,34 @@ use Rattle.words.proofs.state_words.loaded.Reads as loaded-reads
 use Rattle.words.proofs.state_words.stored.Reads as stored-reads
 use Rattle.tape.proofs.tape_cut.tape_cut.Reads as tape-cut-reads
 
--- src/tape_calls.rt:82:9
 refusal-number-requires : tie.Need-refusal-number-requires
 refusal-number-requires c κs = search needs
 
--- src/tape_calls.rt:82:9
 returns : tie.Need-returns
 returns c = let a = c .before .before .before .before .before .before .before .args in
     tape-cut-wrong (a .state .now) (a .image .now) (a .log .now) (a .tape .now) (a .start .now) (a .predicted .now) (a .report .now) (c .before .if1 .taken) (c .refusal-number .ensures)
 
--- src/tape_calls.rt:84:25
 loaded-requires : tie.Need-loaded-requires
 loaded-requires c κs = search needs
 
--- src/tape_calls.rt:84:9
 tape-cut-requires : tie.Need-tape-cut-requires
 tape-cut-requires c κs = search needs
 
--- src/tape_calls.rt:85:5
 stored-requires : tie.Need-stored-requires
 stored-requires c κs = search needs
 
--- src/tape_calls.rt:88:5
 cut-number-requires : tie.Need-cut-number-requires
 cut-number-requires c κs = search needs
 
--- src/tape_calls.rt:69:1
 same-length : tie.Need-same-length
 same-length c = search needs
 
--- src/tape_calls.rt:69:1
 same-length-2 : tie.Need-same-length-2
 same-length-2 c = search needs
 
--- src/tape_calls.rt:69:1
 same-length-3 : tie.Need-same-length-3
 same-length-3 c = search needs
 
--- src/tape_calls.rt:69:1
 returns-2 : tie.Need-returns-2
 returns-2 c = let at-stored = c .before .before .before .before in
     let at-cut = at-stored .before .before .before .before .before .before in

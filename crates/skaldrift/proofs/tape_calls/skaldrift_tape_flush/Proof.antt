@@ -12,44 +12,34 @@ use Rattle.words.proofs.state_words.loaded.Reads as loaded-reads
 use Rattle.words.proofs.state_words.stored.Reads as stored-reads
 use Rattle.tape.proofs.tape_flush.tape_flush.Reads as tape-flush-reads
 
--- src/tape_calls.rt:59:9
 refusal-number-requires : tie.Need-refusal-number-requires
 refusal-number-requires c κs = search needs
 
--- src/tape_calls.rt:59:9
 returns : tie.Need-returns
 returns c = let a = c .before .before .before .before .before .before .before .args in
     tape-flush-wrong (a .state .now) (a .image .now) (a .log .now) (a .tape .now) (a .start .now) (a .predicted .now) (c .before .if1 .taken) (c .refusal-number .ensures)
 
--- src/tape_calls.rt:61:27
 loaded-requires : tie.Need-loaded-requires
 loaded-requires c κs = search needs
 
--- src/tape_calls.rt:61:9
 tape-flush-requires : tie.Need-tape-flush-requires
 tape-flush-requires c κs = search needs
 
--- src/tape_calls.rt:62:5
 stored-requires : tie.Need-stored-requires
 stored-requires c κs = search needs
 
--- src/tape_calls.rt:65:5
 answer-number-requires : tie.Need-answer-number-requires
 answer-number-requires c κs = search needs
 
--- src/tape_calls.rt:47:1
 same-length : tie.Need-same-length
 same-length c = search needs
 
--- src/tape_calls.rt:47:1
 same-length-2 : tie.Need-same-length-2
 same-length-2 c = search needs
 
--- src/tape_calls.rt:47:1
 same-length-3 : tie.Need-same-length-3
 same-length-3 c = search needs
 
--- src/tape_calls.rt:47:1
 returns-2 : tie.Need-returns-2
 returns-2 c = let at-stored = c .before .before .before in
     let at-flush = at-stored .before .before .before .before .before .before in

@@ -12,44 +12,34 @@ use Rattle.words.proofs.state_words.loaded.Reads as loaded-reads
 use Rattle.words.proofs.state_words.stored.Reads as stored-reads
 use Rattle.tape.proofs.tape_write.tape_write.Reads as tape-write-reads
 
--- src/tape_calls.rt:29:9
 refusal-number-requires : tie.Need-refusal-number-requires
 refusal-number-requires c κs = search needs
 
--- src/tape_calls.rt:29:9
 returns : tie.Need-returns
 returns c = let a = c .before .before .before .before .before .before .before .before .args in
     tape-write-wrong (a .state .now) (a .image .now) (a .log .now) (a .tape .now) (a .start) (a .predicted .now) (a .addr) (a .«data» .now) (c .before .if1 .taken) (c .refusal-number .ensures)
 
--- src/tape_calls.rt:32:9
 loaded-requires : tie.Need-loaded-requires
 loaded-requires c κs = search needs
 
--- src/tape_calls.rt:31:9
 tape-write-requires : tie.Need-tape-write-requires
 tape-write-requires c κs = search needs
 
--- src/tape_calls.rt:41:5
 stored-requires : tie.Need-stored-requires
 stored-requires c κs = search needs
 
--- src/tape_calls.rt:43:5
 answer-number-requires : tie.Need-answer-number-requires
 answer-number-requires c κs = search needs
 
--- src/tape_calls.rt:15:1
 same-length : tie.Need-same-length
 same-length c = search needs
 
--- src/tape_calls.rt:15:1
 same-length-2 : tie.Need-same-length-2
 same-length-2 c = search needs
 
--- src/tape_calls.rt:15:1
 same-length-3 : tie.Need-same-length-3
 same-length-3 c = search needs
 
--- src/tape_calls.rt:15:1
 returns-2 : tie.Need-returns-2
 returns-2 c = let at-stored = c .before .before .before in
     let at-write = at-stored .before .before .before .before .before .before in

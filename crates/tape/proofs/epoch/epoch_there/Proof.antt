@@ -9,6 +9,7 @@ use mathlib.Core.Path.{_≡_, sym, ap, _∙_}
 use lib.ListN.{length}
 use lib.Dec.{ltb}
 use borrow.Author.Needs.{needs}
+use Rattle.region.specs.Limits.{image-limit, writes-limit}
 use Rattle.tape.specs.Epoch.{header-right}
 use Rattle.tape.proofs.EpochLaws.{no-header, with-header, past-the-end, other-header, flush-header-right, cut-header-right, fits-behind}
 use Rattle.tape.proofs.epoch.epoch_there.Statement.{statement}
@@ -37,8 +38,8 @@ headed c =
 
 mul-result : tie.Need-mul-result
 mul-result c =
-    let few : c .row-bytes .result ≤ 512 = omega (arith, c .row-bytes .ensures) in
-    let all : c .before .before .before .before .before .args .n * c .row-bytes .result ≤ 32 * 512 = mul-le-mul (c .before .before .before .before .before .pre .0) few in
+    let few : c .row-bytes .result ≤ image-limit = omega (arith, c .row-bytes .ensures) in
+    let all : c .before .before .before .before .before .args .n * c .row-bytes .result ≤ writes-limit * image-limit = mul-le-mul (c .before .before .before .before .before .pre .0) few in
     omega arith
 
 returns-3 : tie.Need-returns-3

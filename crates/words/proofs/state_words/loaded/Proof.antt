@@ -4,6 +4,7 @@ use native.Mathlib.Omega.{arith}
 use mathlib.Core.Path.{_≡_, refl, ap, _∙_}
 use mathlib.Core.List.{List}
 use lib.ListN.{length, getD, take, drop, length-set}
+use Rattle.region.specs.Limits.{writes-limit}
 use Rattle.records.specs.declared.state.Record.{Record}
 use Rattle.words.specs.Words.{records-of}
 use Rattle.words.proofs.WordLaws.{load-more, said-length, front-all}
@@ -13,76 +14,61 @@ use Rattle.words.proofs.state_words.loaded.Reads as reads
 use Rattle.words.proofs.state_words.loaded.Lts as lts
 
 abbrev Inv-loop : tie.InvT-loop
-Inv-loop words records₀ i₀ records i = (i ≤ 32) × (lib.ListN.length records ≡ 32) × (take i records ≡ take i (records-of (drop 1 words)))
+Inv-loop words records₀ i₀ records i = (i ≤ writes-limit) × (length records ≡ writes-limit) × (take i records ≡ take i (records-of (drop 1 words)))
 
 abbrev μ-loop : tie.MeasureT-loop
-μ-loop words records₀ i₀ records i = 32 - i
+μ-loop words records₀ i₀ records i = writes-limit - i
 
--- src/words.rt:23:5
 loop-holds : tie.Need-loop-holds Inv-loop μ-loop
 loop-holds c = (omega arith, refl, refl)
 
--- src/words.rt:24:22
 mul-at : tie.Need-mul-at Inv-loop μ-loop
 mul-at c = omega arith
 
--- src/words.rt:24:18
 add-at : tie.Need-add-at Inv-loop μ-loop
 add-at c = omega arith
 
--- src/words.rt:25:20
 mul-addr : tie.Need-mul-addr Inv-loop μ-loop
 mul-addr c = omega arith
 
--- src/words.rt:25:20
 shared-slice-read-addr : tie.Need-shared-slice-read-addr Inv-loop μ-loop
 shared-slice-read-addr c = omega (arith, c .before .before .before .pre)
 
--- src/words.rt:26:25
 add-len : tie.Need-add-len Inv-loop μ-loop
 add-len c = omega arith
 
--- src/words.rt:26:19
 mul-len : tie.Need-mul-len Inv-loop μ-loop
 mul-len c = omega arith
 
--- src/words.rt:26:19
 shared-slice-read-len : tie.Need-shared-slice-read-len Inv-loop μ-loop
 shared-slice-read-len c = omega (arith, c .before .before .before .before .pre)
 
--- src/words.rt:27:9
 mul-records : tie.Need-mul-records Inv-loop μ-loop
 mul-records c = omega arith
 
--- src/words.rt:27:9
 array-set-from-records : tie.Need-array-set-from-records Inv-loop μ-loop
 array-set-from-records c = omega arith
 
--- src/words.rt:28:9
 add-i : tie.Need-add-i Inv-loop μ-loop
 add-i c = omega arith
 
--- src/words.rt:23:5
 loop-less : tie.Need-loop-less Inv-loop μ-loop
 loop-less c = omega arith
 
--- src/words.rt:23:5
 loop-again : tie.Need-loop-again Inv-loop μ-loop
 loop-again c = let at-loop = c .before .before .before in
     let start = at-loop .before in
     (omega arith, length-set (at-loop .loop .records) (at-loop .loop .i) _ ∙ at-loop .loop .inv .1, load-more (start .args .words .now) (start .pre) (at-loop .loop .records) (at-loop .loop .i) (at-loop .loop .inv .1) (omega arith) (at-loop .loop .inv .2))
 
--- src/words.rt:31:16
 shared-slice-read-t18 : tie.Need-shared-slice-read-t18 Inv-loop μ-loop
 shared-slice-read-t18 c = omega (arith, c .before .before .before .pre)
 
--- src/words.rt:16:1
 returns : tie.Need-returns Inv-loop μ-loop
 returns c = let at-loop = c .before .before in
     let words = at-loop .before .args .words .now in
-    let last : at-loop .loop .i ≡ 32 = omega arith in
-    let front : take 32 (at-loop .loop .records) ≡ take 32 (records-of (drop 1 words)) = rw last at (at-loop .loop .inv .2) in
-    ap (λ (rs : List Record). record { count = getD words 0 0; records = rs }) (front-all (at-loop .loop .records) (records-of (drop 1 words)) 32 (at-loop .loop .inv .1) (said-length words (at-loop .before .pre)) front)
+    let last : at-loop .loop .i ≡ writes-limit = omega arith in
+    let front : take writes-limit (at-loop .loop .records) ≡ take writes-limit (records-of (drop 1 words)) = rw last at (at-loop .loop .inv .2) in
+    ap (λ (rs : List Record). record { count = getD words 0 0; records = rs }) (front-all (at-loop .loop .records) (records-of (drop 1 words)) writes-limit (at-loop .loop .inv .1) (said-length words (at-loop .before .pre)) front)
 
 pub loaded-spec : {M : Type 1} → statement M
 loaded-spec =

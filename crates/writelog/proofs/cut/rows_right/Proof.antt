@@ -7,26 +7,27 @@ use lib.ListN.{length}
 use lib.Dec.{eqb}
 use borrow.Author.Tests.{eq-eqb, ne-eqb}
 use borrow.Author.Needs.{needs}
+use Rattle.region.specs.Limits.{image-limit, writes-limit, const-persistence-chunk-size}
 use Rattle.replay.specs.Rows.{row-bytes, rows-filled}
 use Rattle.replay.specs.AsyncSpec.{size-to-chunks}
 use Rattle.region.proofs.Booleans.{and-when, and-unless}
 use Rattle.writelog.proofs.cut.rows_right.Statement.{statement}
 use Rattle.writelog.proofs.cut.rows_right.Tie as tie
 
-width-is : (c : tie.After-row-bytes) → c .row-bytes .result ≡ row-bytes (size-to-chunks 8 (c .before .before .before .args .size))
+width-is : (c : tie.After-row-bytes) → c .row-bytes .result ≡ row-bytes (size-to-chunks const-persistence-chunk-size (c .before .before .before .args .size))
 width-is c = c .row-bytes .ensures ∙ ap row-bytes (c .before .size-to-chunks .ensures)
 
 mul-if1 : tie.Need-mul-if1
 mul-if1 c =
-    let few : c .row-bytes .result ≤ 64 = omega (arith, c .row-bytes .ensures, c .before .size-to-chunks .ensures) in
-    let all : c .before .before .before .args .n * c .row-bytes .result ≤ 32 * 64 = mul-le-mul (c .before .before .before .pre .0) few in
+    let few : c .row-bytes .result ≤ image-limit = omega (arith, c .row-bytes .ensures, c .before .size-to-chunks .ensures) in
+    let all : c .before .before .before .args .n * c .row-bytes .result ≤ writes-limit * image-limit = mul-le-mul (c .before .before .before .pre .0) few in
     omega arith
 
 returns : tie.Need-returns
 returns c =
     let row = c .before in
     let a = row .before .before .before .args in
-    let K = size-to-chunks 8 (a .size) in
+    let K = size-to-chunks const-persistence-chunk-size (a .size) in
     sym (and-unless (eqb (length (a .rows .now)) (a .n * row-bytes K)) (rows-filled K (a .n) (a .rows .now) 0) (ne-eqb (length (a .rows .now)) (a .n * row-bytes K) (λ e. c .if1 .taken (e ∙ ap (λ (w : ℕ). a .n * w) (sym (width-is row))))))
 
 rows-filled-requires : tie.Need-rows-filled-requires
@@ -41,7 +42,7 @@ returns-2 : tie.Need-returns-2
 returns-2 c =
     let row = c .before .before in
     let a = row .before .before .before .args in
-    let K = size-to-chunks 8 (a .size) in
+    let K = size-to-chunks const-persistence-chunk-size (a .size) in
     c .rows-filled .ensures ∙ ap (λ (k : ℕ). rows-filled k (a .n) (a .rows .now) 0) (row .before .size-to-chunks .ensures)
     ∙ sym (and-when (eqb (length (a .rows .now)) (a .n * row-bytes K)) (rows-filled K (a .n) (a .rows .now) 0) (eq-eqb (length (a .rows .now)) (a .n * row-bytes K) (c .before .if1 .left ∙ ap (λ (w : ℕ). a .n * w) (width-is row))))
 
