@@ -966,6 +966,33 @@ fn points_trial(addr: usize) {
     end();
 }
 
+// One write by the gate.
+fn gated(image: &[u8], work: &mut [u8], sheet: &[u8], addr: usize, bytes: &[u8]) {
+    let mut log = [0u8; 1024];
+    let after = gate(fresh(), image, &mut log, sheet, work, addr, bytes);
+    let answer = after.verdict;
+    verdict(answer);
+}
+
+// Images of no byte and of 4096, with a sheet that always holds and one that says of byte 4095 that
+// it is 0 or 7.
+fn ends_trial() {
+    let image = [0u8; 4096];
+    let mut none = [0u8; 0];
+    let mut work = [0u8; 4096];
+    let last = [0x1C, 0x20, 0x3F, 0xFC, 0x00, 0x00, 0x0F, 0xFF, 0x07, 0x07];
+    name(b"gate over 0 bytes");
+    gated(&image[..0], &mut none, &[0x18, 0x00], 0, &[]);
+    gated(&image[..0], &mut none, &[0x18, 0x00], 1, &[]);
+    gated(&image[..0], &mut none, &last, 0, &[]);
+    name(b", over 4096");
+    gated(&image, &mut work, &last, 4095, &[7]);
+    gated(&image, &mut work, &last, 4095, &[8]);
+    gated(&image, &mut work, &last, 4096, &[]);
+    gated(&image, &mut work, &last, 4096, &[7]);
+    end();
+}
+
 pub fn run() {
     sheets_trial();
     malformed_trial();
@@ -977,4 +1004,5 @@ pub fn run() {
     spent_verdict_trial();
     points_trial(0);
     points_trial(1);
+    ends_trial();
 }
