@@ -4,12 +4,14 @@ use Prim.Native.Nat.{ℕ, zero, suc}
 use mathlib.Core.Path.{_≡_, refl, sym, ap, subst⁻¹, _∙_}
 use mathlib.Core.Bool.{true, false}
 use mathlib.Core.List.{List}
-use lib.ListN.{length}
+use lib.ListN.{length, set, length-set}
 use Rattle.region.specs.Limits.{const-persistence-chunk-size, writes-limit}
 use Rattle.region.specs.Answer.{if-done}
 use Rattle.region.specs.Pmemspec.{update-bytes}
 use Rattle.region.specs.declared.Answer.{Answer}
 use Rattle.region.specs.declared.Answer.the-variants.{Done}
+use Rattle.region.proofs.AnswerLaws.{done-changed}
+use Rattle.replay.specs.AsyncSpec.{AsyncView, len, write, size-to-chunks}
 use Rattle.cuts.proofs.Lengths.{length-flush, length-flush-selective}
 use Rattle.records.specs.State.{log-records, together, view, sound, appended, emptied}
 use Rattle.writelog.specs.Write.{write-number, Writes}
@@ -23,13 +25,22 @@ use Rattle.records.proofs.Views.{sized-of-appended, sound-after-recorded, sound
 use Rattle.gate.specs.Opening.{Opens}
 use Rattle.gate.specs.Judgement.{judge-number, Gates}
 use Rattle.gate.specs.declared.Verdict.{Verdict}
+use Rattle.gate.specs.declared.Verdict.the-variants.{Admitted, Denied, Refused}
+use Rattle.gate.specs.Meaning.{Means}
+use Rattle.gate.proofs.Meaning.{gate-means}
 use Rattle.gate.proofs.JudgementLaws.{number-0-fits}
-use Rattle.gate.proofs.Gives.{opened-holds}
+use Rattle.gate.proofs.Gives.{opened-holds, refused-left}
 use Rattle.tape.specs.Write.{tape-write-number, TapeWrites}
 use Rattle.tape.specs.Flush.{tape-flush-number, TapeFlushes}
 use Rattle.tape.specs.Cut.{tape-cut-number, TapeCuts}
+use Rattle.tape.specs.Foretold.{predicted-image}
+use Rattle.tape.proofs.EpochLaws.{Epoch}
+use Rattle.tape.proofs.Foretells.{foretold-is-valid}
 use Rattle.tape.proofs.NumberLaws.{tape-write-done, ending-done}
 use Rattle.tape.proofs.PredictLaws.{predicted-cut}
+use Rattle.example.specs.Setup.{setup-number, SetsUp}
+use Rattle.example.specs.Run.{run-number, if-any-round, Runs}
+use Rattle.example.specs.declared.RunAnswer.{RunAnswer}
 
 -- refusal 1 doesn't apply, and the state has its 32 records
 pub record Accepted (image : List ℕ) (st : State) (log : List ℕ) : Type 0 where
@@ -106,3 +117,61 @@ pub accepted-after-opening : (image : List ℕ) (st : State) (log sheet : List �
 accepted-after-opening image st log sheet p =
     let held = opened-holds image st log sheet p refl in
     record { sized = held .sized; good = facts-sound _ _ _ (held .facts) }
+
+-- the working image keeps the image's length, whatever the verdict
+pub work-fits-after-gate : (image : List ℕ) (st : State) (log sheet work : List ℕ) (addr : ℕ) (bytes : List ℕ) {answer : Verdict} {st′ : State} {log′ work′ : List ℕ}
+    → length work ≡ length image → Gates image st log sheet work addr bytes answer st′ log′ work′ → length work′ ≡ length image
+work-fits-after-gate image st log sheet work addr bytes {answer} {st′} {log′} {work′} same g = go answer refl
+  where
+    means : Means image st log sheet work addr bytes answer work′
+    means = gate-means image st log sheet work addr bytes g
+
+    go : (a : Verdict) → answer ≡ a → length work′ ≡ length image
+    go (Admitted n) e = ap length (means .admitted-leaves n e .1) ∙ length-flush (write (view image st log) addr bytes)
+    go (Denied m) e = ap length (means .denied-leaves m e) ∙ length-flush-selective const-persistence-chunk-size (write (view image st log) addr bytes) _
+    go (Refused why) e = ap length (refused-left image st log sheet work addr bytes g e .2) ∙ same
+
+-- the predicted image keeps the image's length
+predicted-length : (tape : List ℕ) (start : ℕ) (v : AsyncView) → length (predicted-image const-persistence-chunk-size tape start v) ≡ len v
+predicted-length tape start v = sym (foretold-is-valid const-persistence-chunk-size tape start v) ∙ length-flush v
+
+module _ (image : List ℕ) (st : State) (log tape : List ℕ) (start : ℕ) (predicted : List ℕ) (same : length predicted ≡ length image) where
+  pub predicted-fits-after-tape-write : {addr : ℕ} {bytes : List ℕ} {answer : Answer} {st′ : State} {log′ predicted′ : List ℕ}
+      → TapeWrites image st log tape start predicted addr bytes answer st′ log′ predicted′ → length predicted′ ≡ length image
+  predicted-fits-after-tape-write {addr} {bytes} p =
+      either-way (λ x y. length x ≡ length image) (tape-write-number image st log tape start predicted addr (length bytes)) (p .predicted-after) (p .predicted-after)
+      (λ none. predicted-length tape start _) same
+
+  pub predicted-fits-after-tape-flush : {answer : Answer} {st′ : State} {start′ : ℕ} {image′ predicted′ : List ℕ}
+      → TapeFlushes image st log tape start predicted answer st′ start′ image′ predicted′ → length predicted′ ≡ length image′
+  predicted-fits-after-tape-flush p =
+      either-way (λ x y. length x ≡ length y) (tape-flush-number image st log tape start predicted) (p .predicted-after) (p .image-after) (λ none. refl) same
+
+  pub predicted-fits-after-tape-cut : {answer : CutAnswer} {st′ : State} {start′ : ℕ} {image′ predicted′ : List ℕ}
+      → TapeCuts image st log tape start predicted answer st′ start′ image′ predicted′ → length predicted′ ≡ length image′
+  predicted-fits-after-tape-cut p =
+      either-way (λ x y. length x ≡ length y) (tape-cut-number image st log tape start predicted) (p .predicted-after) (p .image-after) (λ none. refl) same
+
+-- `inv` of the prophecy: after a done write by tape the epoch has a row for every write of the log, whole and rightly filled
+pub rows-there-after-tape-write : (image : List ℕ) (st : State) (log tape : List ℕ) (start : ℕ) (predicted : List ℕ) {addr : ℕ} {bytes : List ℕ} {st′ : State} {log′ predicted′ : List ℕ}
+    → TapeWrites image st log tape start predicted addr bytes Done st′ log′ predicted′
+    → Epoch (size-to-chunks const-persistence-chunk-size (length image)) (st′ .count) tape start
+rows-there-after-tape-write image st log tape start predicted {addr} {bytes} p =
+    let none : tape-write-number image st log tape start predicted addr (length bytes) ≡ 0 = sym (p .answers) in
+    let state = p .state-after ∙ sym (done-changed (appended st addr (length bytes)) st none) in
+    subst⁻¹ (λ (n : ℕ). Epoch (size-to-chunks const-persistence-chunk-size (length image)) n tape start) (ap (λ (s : State). s .count) state)
+    (tape-write-done image st log tape start predicted addr (length bytes) none .room .epoch)
+
+-- `inv` after the example's setup and run: the image keeps its length
+pub length-after-setup : (image : List ℕ) (addr val0 : ℕ) {answer : Answer} {image′ : List ℕ} → SetsUp image addr val0 answer image′ → length image′ ≡ length image
+length-after-setup image addr val0 p =
+    either-way (λ x y. length x ≡ length image) (setup-number image addr) (p .image-after) (p .image-after) (λ none. length-set image addr val0) refl
+
+pub length-after-run : (image log work : List ℕ) (addr val0 val1 rounds : ℕ) {answer : RunAnswer} {image′ log′ work′ : List ℕ} → Runs image log work addr val0 val1 rounds answer image′ log′ work′
+    → length image′ ≡ length image
+length-after-run image log work addr val0 val1 rounds p =
+    either-way (λ x y. length x ≡ length image) (run-number image log work addr val0 val1 rounds) (p .image-after) (p .image-after) (λ none. by-rounds rounds) refl
+  where
+    by-rounds : (n : ℕ) → length (if-any-round n (set image addr val0) image) ≡ length image
+    by-rounds zero = refl
+    by-rounds (suc n) = length-set image addr val0

@@ -2,35 +2,39 @@
 use Prim.Native.Nat.{ℕ, zero, suc, _+_, _≤_, _<_}
 use native.Mathlib.Nat.{le-of-suc-le-suc, not-suc-le-zero, min-le-left}
 use native.Mathlib.Omega.{arith}
-use mathlib.Core.Path.{_≡_, sym, ap, subst, subst⁻¹, _∙_}
+use mathlib.Core.Path.{_≡_, sym, ap, ap₂, subst, subst⁻¹, _∙_}
 use mathlib.Core.Bool.{Bool, true}
 use mathlib.Core.List.{List, [], _∷_}
 use lib.Dec.{leb}
 use lib.ListN.{length, getD, drop, length-take}
 use borrow.Author.Tests.{leb-true}
 use Rattle.region.specs.Limits.{const-persistence-chunk-size, writes-limit}
-use Rattle.region.specs.Pmemspec.{extract-bytes}
+use Rattle.region.specs.Pmemspec.{update-bytes, extract-bytes}
 use Rattle.region.specs.Answer.{Report}
+use Rattle.region.specs.declared.Answer.the-variants.{Done}
 use Rattle.region.proofs.AnswerLaws.{done-changed}
 use Rattle.region.proofs.Booleans.{both}
-use Rattle.replay.specs.AsyncSpec.{AsyncView, len, valid, within, write, flush, readable, can-crash-as}
+use Rattle.replay.specs.AsyncSpec.{AsyncView, len, valid, within, write, flush, readable, can-crash-as, can-crash}
 use Rattle.replay.proofs.Laid.{update-reads-back}
 use Rattle.cuts.specs.Prophecy.{prophecy}
 use Rattle.cuts.specs.Shape.{has-shape}
+use Rattle.cuts.proofs.Always.{cut-after-flush, cut-could-leave-the-read-image}
 use Rattle.cuts.proofs.Flush.{flush-leaves-the-read-image}
 use Rattle.cuts.proofs.Lengths.{length-flush}
 use Rattle.cuts.proofs.OneMore.{read-of-a-write}
 use Rattle.cuts.proofs.Prophecy.{prophecy-of-nothing}
 use Rattle.cuts.proofs.Shape.{shaped-rows-crash}
 use Rattle.cuts.proofs.Tables.{rows-at-shape}
-use Rattle.records.specs.State.{log-records, writes-of, view, records-inside, sound}
+use Rattle.records.specs.State.{log-records, together, writes-of, view, records-inside, sound, appended, emptied}
+use Rattle.writelog.specs.Write.{write-number, Writes}
+use Rattle.writelog.specs.Flush.{flush-number, Flushes}
 use Rattle.writelog.specs.Cut.{chunks, table-rows, cut-number, cut-image, Cuts}
 use Rattle.records.specs.declared.state.Record.{Record}
 use Rattle.records.specs.declared.state.State.{State}
 use Rattle.writelog.specs.declared.cut.CutAnswer.the-variants.{Kept}
 use Rattle.records.proofs.Soundness.{sound-facts}
-use Rattle.writelog.proofs.WriteLaws.{passed}
-use Rattle.records.proofs.Views.{writes-counted}
+use Rattle.writelog.proofs.WriteLaws.{passed, room-done}
+use Rattle.records.proofs.Views.{writes-counted, view-of-recorded, view-of-emptied}
 
 -- `serialize_and_write` of pmem_async_spec_t.rs, without the object: what a write inside the region put there is read back
 pub written-is-read : (v : AsyncView) (addr : ℕ) (bytes : List ℕ) → addr + length bytes ≤ len v → extract-bytes (readable (write v addr bytes)) addr (length bytes) ≡ bytes
@@ -70,3 +74,26 @@ cut-leaves-a-crash image st log table {k} {st′} {image′} sized p =
     subst⁻¹ (λ (x : List ℕ). can-crash-as const-persistence-chunk-size (view image st log) x (table-rows image st table))
     (p .image-after ∙ sym (done-changed (cut-image image st log table) image none))
     (shaped-rows-crash const-persistence-chunk-size (view image st log) (table-rows image st table) shape)
+
+-- `write` of pmem_async_spec_t.rs: a done write puts the write to the end of the log
+pub done-write-writes : (image : List ℕ) (st : State) (log : List ℕ) (addr : ℕ) (bytes : List ℕ) {st′ : State} {log′ : List ℕ} → length (st .records) ≡ writes-limit
+    → Writes image st log addr bytes Done st′ log′ → view image st′ log′ ≡ write (view image st log) addr bytes
+unfolding write-number
+done-write-writes image st log addr bytes sized p =
+    let none : write-number image st log addr (length bytes) ≡ 0 = sym (p .answers) in
+    let tests = passed (sound (length image) st (length log)) 0 _ none in
+    let room = room-done (length image) st addr (length bytes) (tests .1) in
+    ap₂ (view image) (p .state-after ∙ sym (done-changed (appended st addr (length bytes)) st none)) (p .log-after ∙ sym (done-changed (update-bytes log (together (log-records st)) bytes) log none))
+    ∙ view-of-recorded image st log addr bytes sized (sound-facts (length image) st (length log) (tests .0)) room
+
+-- `flush` of pmem_async_spec_t.rs: a done flush flushes
+pub done-flush-flushes : (image : List ℕ) (st : State) (log : List ℕ) {st′ : State} {image′ : List ℕ}
+    → Flushes image st log Done st′ image′ → view image′ st′ log ≡ flush (view image st log)
+done-flush-flushes image st log p =
+    let none : flush-number image st log ≡ 0 = sym (p .answers) in
+    ap₂ (λ (x : List ℕ) (s : State). view x s log) (p .image-after ∙ sym (done-changed (readable (view image st log)) image none)) (p .state-after ∙ sym (done-changed (emptied st) st none))
+    ∙ view-of-emptied st (readable (view image st log)) log ∙ sym (flush-leaves-the-read-image (view image st log))
+
+-- the comment on `flush` in power_v.rs: what a cut could leave after a flush, it could have left before
+pub flush-narrows : (C : ℕ) → 0 < C → (v : AsyncView) (x : List ℕ) → can-crash C (flush v) x → can-crash C v x
+flush-narrows C positive v x h = subst⁻¹ (can-crash C v) (cut-after-flush C v x .0 h) (cut-could-leave-the-read-image C positive v)

@@ -25,7 +25,7 @@ use Rattle.tape.proofs.Steps.{StepOfEnding, step-of-write, step-of-flush, step-
 use Rattle.session.specs.History.{Event, nothing, written, flushed, cut-by, reopened, History, _then_, if-answered, if-cut, happen, replay}
 use Rattle.session.specs.Run as run
 use Rattle.session.specs.Run.{Desk, desk, seen, Step, Run}
-use Rattle.session.specs.TapeRun.{TapeStep, judged-write, flush, cut, reopen, other, TapeRun, opened, _and_, tape-throughout}
+use Rattle.session.specs.TapeRun.{TapeStep, judged-write, flush, cut, reopen, restart, other, TapeRun, opened, _and_, tape-throughout}
 use Rattle.session.specs.TapeTheorem.{Told, predicted-of, epoch-over, tell, replay-by-tape, prediction, TapeSession}
 use Rattle.session.proofs.Keeps.{left, HoldsAt}
 use Rattle.session.proofs.Steps.{numbered, step-keeps}
@@ -41,6 +41,7 @@ module _ (sheet tape : List ℕ) where
   forget-step (flush p) = run.tape-flush p
   forget-step (cut p) = run.tape-cut p
   forget-step (reopen e p) = run.reopen p
+  forget-step (restart e p) = run.restart p
   forget-step (other s) = s
 
   pub forget : {image : List ℕ} {h : History} {d : Desk} {start : ℕ} → TapeRun sheet tape image h d start → Run sheet image h d
@@ -86,13 +87,18 @@ module _ (sheet tape : List ℕ) where
     cut-tells {predicted} (cut-answer.Kept k) p = ending-tells (step-of-cut image st log tape start predicted (h .sized) p (numbered (p .answers)) .ending)
     cut-tells (cut-answer.Refused why) p = still h (run.tape-cut p) (left _ _ (p .start-after) (refusal-not-done why) (numbered (p .answers)))
 
-    -- on an empty log the view is the image alone, before and after
+    -- on an empty log the view is the image alone, before and after, whatever memory is handed in for state and log
+    reopened-tells : {st₀ : State} {log₀ : List ℕ} {st′ : State} → st .count ≡ 0 → Opens image st₀ log₀ sheet answer.Done st′
+        → now (desk image st′ log₀) start ≡ tell C tape here reopened
+    unfolding tell writes-of
+    reopened-tells {st₀} {log₀} empty p =
+        ap (λ (t : State). now (desk image t log₀) start) (opened-fresh image st₀ log₀ sheet p refl)
+        ∙ ap (λ (k : ℕ). record { view = record { state-at-last-flush = image; outstanding-writes = writes-of (take k (st .records)) log }; start = start }) (sym empty)
+
     open-tells : (a : Answer) {st′ : State} → st .count ≡ 0 → Opens image st log sheet a st′
         → now (desk image st′ log) start ≡ tell C tape here (if-answered a reopened)
-    unfolding tell writes-of
-    open-tells answer.Done {st′} empty p =
-        ap (λ (t : State). now (desk image t log) start) (opened-fresh image st log sheet p refl)
-        ∙ ap (λ (k : ℕ). record { view = record { state-at-last-flush = image; outstanding-writes = writes-of (take k (st .records)) log }; start = start }) (sym empty)
+    unfolding tell
+    open-tells answer.Done empty p = reopened-tells empty p
     open-tells (answer.Refused why) empty p = still h (run.reopen p) refl
 
   tells : {d : Desk} {start : ℕ} {e : Event} {d′ : Desk} {start′ : ℕ} → HoldsAt sheet d → TapeStep sheet tape d start e d′ start′
@@ -102,6 +108,7 @@ module _ (sheet tape : List ℕ) where
   tells h (flush {answer = a} p) = flush-tells _ _ _ _ h a p
   tells h (cut {answer = a} p) = cut-tells _ _ _ _ h a p
   tells h (reopen {start = start} {answer = a} empty p) = open-tells _ _ _ start h a empty p
+  tells h (restart {start = start} empty p) = reopened-tells _ _ _ start h empty p
   tells h (other s) = still h s refl
 
   told : {image : List ℕ} {h : History} {d : Desk} {start : ℕ} → TapeRun sheet tape image h d start → now d start ≡ replay-by-tape C tape image h

@@ -9,10 +9,11 @@ use Rattle.region.specs.Limits.{const-persistence-chunk-size, log-limit}
 use Rattle.region.specs.declared.Answer.{Answer}
 use Rattle.region.specs.declared.Answer.the-variants.{Done}
 use Rattle.replay.specs.AsyncSpec.{committed, can-crash}
+use Rattle.cuts.specs.Packed.{are-bytes}
 use Rattle.sheet.specs.Sheet.{obeys}
 use Rattle.records.specs.declared.state.State.{State}
 use Rattle.gate.specs.Opening.{Opens}
-use Rattle.session.specs.History.{History, replay}
+use Rattle.session.specs.History.{History, cut-by, _then_, replay}
 use Rattle.session.specs.Run.{Desk, seen}
 
 pub record Session (sheet image : List ℕ) (h : History) (d : Desk) : Type 0 where
@@ -24,5 +25,8 @@ pub record Session (sheet image : List ℕ) (h : History) (d : Desk) : Type 0 wh
       → {st : State} {log : List ℕ} {answer : Answer} {st′ : State} → length log ≡ log-limit → Opens x st log sheet answer st′ → answer ≡ Done
   -- "the image found is the one that replaying the history gives"
   pub image-is-the-replay : d .image ≡ committed (replay const-persistence-chunk-size image h)
+  -- and so is whatever image a power loss leaves: it is a cut by some rows, and the history goes on with it
+  pub found-is-the-replay : (x : List ℕ) → can-crash const-persistence-chunk-size (seen d) x
+      → (table : List ℕ) × are-bytes table × (x ≡ committed (replay const-persistence-chunk-size image (h then cut-by table 0)))
   -- and so are the writes that a flush or cut would settle next
   pub outstanding-are-the-replay : seen d .outstanding-writes ≡ replay const-persistence-chunk-size image h .outstanding-writes
