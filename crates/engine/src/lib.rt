@@ -3,4 +3,4 @@
 // Assumed: nothing.
 pub mod count;
 pub mod search;
-pub mod trial;
+mod trial;

@@ -52,7 +52,7 @@ fn weigh(
 }
 
 // The judging of a sound state with `used` outstanding bytes.
-pub fn decide(
+pub(crate) fn decide(
     state: State,
     used: usize,
     image: &[u8],

@@ -3,9 +3,9 @@
 // is there. Each call is total on any bytes and proved to answer and leave behind exactly what
 // specs/ says (document 01, "The tape", with the prophecy view of pmem_async_equiv_v.rs). Nothing is
 // assumed.
-pub mod ending;
-pub mod epoch;
-pub mod predict;
+mod ending;
+mod epoch;
+mod predict;
 pub mod tape_cut;
 pub mod tape_flush;
 pub mod tape_write;

@@ -18,7 +18,7 @@ ghost use Rattle.tape.specs.Write.{tape-room-number, TapeWrites};
 
 // Is there room for a write of `len` bytes, and a right row for it on the tape? Document 01's 2, 3,
 // 4, 10 and 9.
-pub fn tape_room(
+fn tape_room(
     size: usize,
     state: State,
     used: usize,

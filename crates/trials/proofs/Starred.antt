@@ -11,12 +11,14 @@ use Rattle.replay.specs.Rows.{rows-filled, row-filled}
 use Rattle.records.specs.State.{writes-of, together, records-inside, sound}
 use Rattle.verdict.specs.Search.{verdict, verdict-from}
 use Rattle.sheet.specs.Sheet.{field, clause-holds, empty-holds, join, holds, members-hold, read-field, read-tagged, read-entry, read-members, read-rest, read-rule, read-edition, filling, read-filling, read-whole, read-sheet, well-formed, obeys}
+use Rattle.writelog.specs.Read.{asked-number}
+use Rattle.writelog.specs.Cut.{cut-number}
 use Rattle.gate.specs.Judgement.{judgement}
 use Rattle.tape.specs.Epoch.{epoch-number}
 use Rattle.tape.specs.Write.{tape-room-number, tape-write-number}
 use Rattle.tape.specs.Ending.{ending-number}
-use Rattle.trials.specs.Table.{Trial, starred, zeros, a, b, opened, state, log, seen, after-cut, by-number, told, judged-first, first-by-tape, second-by-tape, ends-by-tape}
+use Rattle.trials.specs.Table.{Trial, starred, zeros, a, b, opened, state, log, seen, after-read, after-cut, by-number, told, judged-first, first-by-tape, second-by-tape, ends-by-tape}
 
 pub starred-trials-hold : map (λ (t : Trial). t .gives) starred ≡ map (λ (t : Trial). t .says) starred
-unfolding starred zeros a b opened state log seen after-cut by-number tab tab-from update-bytes apply-write-selective flush-writes flush-writes-selective touched points row-of rows-of row-at rows-at set-bits kept kept-of writes-of told judged-first first-by-tape second-by-tape ends-by-tape rows-filled row-filled together records-inside sound verdict verdict-from field clause-holds empty-holds join holds members-hold read-field read-tagged read-entry read-members read-rest read-rule read-edition filling read-filling read-whole read-sheet well-formed obeys judgement epoch-number tape-room-number tape-write-number ending-number
+unfolding starred zeros a b opened state log seen after-read after-cut by-number asked-number cut-number tab tab-from update-bytes apply-write-selective flush-writes flush-writes-selective touched points row-of rows-of row-at rows-at set-bits kept kept-of writes-of told judged-first first-by-tape second-by-tape ends-by-tape rows-filled row-filled together records-inside sound verdict verdict-from field clause-holds empty-holds join holds members-hold read-field read-tagged read-entry read-members read-rest read-rule read-edition filling read-filling read-whole read-sheet well-formed obeys judgement epoch-number tape-room-number tape-write-number ending-number
 starred-trials-hold = refl

@@ -1,7 +1,7 @@
 -- The starred desk trials of document 01. Each row has what the definitions give and what document 01 says; `proofs/Starred.antt` proves them equal.
 -- "L = 16, zeros; A = 11 22 33 44 at 6, B = AA BB at 7; n = 4. Bytes 6 to 9."
-use Prim.Native.Nat.{ℕ, _+_}
-use mathlib.Core.List.{List, [], _∷_, _++_}
+use Prim.Native.Nat.{ℕ}
+use mathlib.Core.List.{List, [], _∷_}
 use lib.ListN.{length, replicate}
 use Rattle.region.specs.Limits.{const-persistence-chunk-size, log-limit, writes-limit}
 use Rattle.region.specs.Pmemspec.{update-bytes, extract-bytes, size-to-chunks}
@@ -9,7 +9,8 @@ use Rattle.replay.specs.AsyncSpec.{readable}
 use Rattle.cuts.specs.Number.{choice-image, choice-points}
 use Rattle.region.specs.Answer.{Report}
 use Rattle.records.specs.State.{view, appended, emptied}
-use Rattle.writelog.specs.Cut.{cut-image, cut-kept}
+use Rattle.writelog.specs.Cut.{cut-number, cut-image, cut-kept}
+use Rattle.writelog.specs.Read.{read-number}
 use Rattle.records.specs.declared.state.State.{State}
 use Rattle.gate.specs.Judgement.{judge-report}
 use Rattle.tape.specs.Write.{tape-write-number, predicted-with}
@@ -44,8 +45,13 @@ log = update-bytes (update-bytes (replicate log-limit 0) 0 a) (length a) b
 unfoldable pub seen : List ℕ → List ℕ
 seen image = extract-bytes image 6 4
 
+-- the number of a read, and what it sees
+unfoldable pub after-read : List ℕ
+after-read = read-number zeros state log zeros 6 4 ∷ seen (readable (view zeros state log))
+
+-- the number of a cut, what it keeps and what it leaves
 unfoldable pub after-cut : List ℕ → List ℕ
-after-cut table = seen (cut-image zeros state log table) ++ (cut-kept zeros state log table ∷ [])
+after-cut table = cut-number zeros state log table ∷ cut-kept zeros state log table ∷ seen (cut-image zeros state log table)
 
 unfoldable pub by-number : ℕ → List ℕ
 by-number m = seen (choice-image const-persistence-chunk-size (view zeros state log) m)
@@ -76,15 +82,15 @@ ends-by-tape tape =
     ∷ []
 
 unfoldable pub starred : List Trial
-unfolding zeros a b opened state log seen after-cut by-number told judged-first first-by-tape second-by-tape ends-by-tape
+unfolding zeros a b opened state log seen after-read after-cut by-number told judged-first first-by-tape second-by-tape ends-by-tape
 starred =
-    record { gives = seen (readable (view zeros state log)); says = 0x11 ∷ 0xAA ∷ 0xBB ∷ 0x44 ∷ [] }
+    record { gives = after-read; says = 0 ∷ 0x11 ∷ 0xAA ∷ 0xBB ∷ 0x44 ∷ [] }
     ∷ record { gives = choice-points const-persistence-chunk-size (view zeros state log) ∷ []; says = 4 ∷ [] }
-    ∷ record { gives = after-cut (0x80 ∷ 0x40 ∷ []); says = 0x11 ∷ 0x22 ∷ 0xBB ∷ 0x00 ∷ 2 ∷ [] }
+    ∷ record { gives = after-cut (0x80 ∷ 0x40 ∷ []); says = 0 ∷ 2 ∷ 0x11 ∷ 0x22 ∷ 0xBB ∷ 0x00 ∷ [] }
     ∷ record { gives = by-number 9; says = 0x11 ∷ 0x22 ∷ 0xBB ∷ 0x00 ∷ [] }
-    ∷ record { gives = after-cut (0x40 ∷ 0x80 ∷ []); says = 0x00 ∷ 0xAA ∷ 0x33 ∷ 0x44 ∷ 2 ∷ [] }
+    ∷ record { gives = after-cut (0x40 ∷ 0x80 ∷ []); says = 0 ∷ 2 ∷ 0x00 ∷ 0xAA ∷ 0x33 ∷ 0x44 ∷ [] }
     ∷ record { gives = by-number 6; says = 0x00 ∷ 0xAA ∷ 0x33 ∷ 0x44 ∷ [] }
-    ∷ record { gives = after-cut (0xC0 ∷ 0x00 ∷ []); says = 0x11 ∷ 0x22 ∷ 0x33 ∷ 0x44 ∷ 2 ∷ [] }
+    ∷ record { gives = after-cut (0xC0 ∷ 0x00 ∷ []); says = 0 ∷ 2 ∷ 0x11 ∷ 0x22 ∷ 0x33 ∷ 0x44 ∷ [] }
     ∷ record { gives = by-number 3; says = 0x11 ∷ 0x22 ∷ 0x33 ∷ 0x44 ∷ [] }
     ∷ record { gives = first-by-tape (0x00 ∷ 0x80 ∷ 0x40 ∷ []); says = 0 ∷ 0x11 ∷ 0x22 ∷ 0x00 ∷ 0x00 ∷ [] }
     ∷ record { gives = second-by-tape (0x00 ∷ 0x80 ∷ 0x40 ∷ []); says = 0 ∷ 0x11 ∷ 0x22 ∷ 0xBB ∷ 0x00 ∷ [] }

@@ -28,7 +28,7 @@ pub struct AfterCut {
 }
 
 // A table of the right length, with no filling bit set, for n writes and an image of `size` bytes.
-pub fn rows_right(rows: &[u8], n: usize, size: usize) -> bool
+fn rows_right(rows: &[u8], n: usize, size: usize) -> bool
     requires { ⌜ (n ≤ writes-limit) × (size ≤ image-limit) ⌝ }
     ensures { λ r. ⌜ r ≡ rows-right (size-to-chunks const-persistence-chunk-size size) n (now (rows .entry)) ⌝ }
 {
