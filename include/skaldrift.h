@@ -1,7 +1,11 @@
 /*
  * Skaldrift: a formula table in persistent memory that a power cut cannot leave half patched.
  *
- * Link with libskaldrift.a (`rt staticlib skaldrift` writes target/staticlib/libskaldrift.a). C11 and C++.
+ * Link with libskaldrift.a, for x86-64 Linux (`rt staticlib skaldrift` writes target/staticlib/libskaldrift.a):
+ *
+ *     cc -I include main.c target/staticlib/libskaldrift.a
+ *
+ * C11 and C++11. It allocates nothing and calls nothing outside itself.
  *
  * Every function here is proved: it ends, stays inside the memory that it is lent, and answers and leaves behind
  * exactly what is said below, for all inputs. None trusts its caller to have checked anything. What no proof can
@@ -10,8 +14,23 @@
  *     Each pointer leads to as many elements as the length after it says (`report` and `start` to one number), and
  *     no buffer that a call may change overlaps another buffer of the same call.
  *
- * A buffer that a call may change is one without `const`. A null pointer is fine where the length is 0. The library
- * keeps nothing between calls, so threads that share no buffer need no lock.
+ * A buffer that a call may change is one without `const`. A null pointer is fine where the length is 0; `report` and
+ * `start` are never null. The library keeps nothing between calls, so threads need a lock only for a buffer that one of
+ * them may change.
+ *
+ * HOW A DESK USES IT
+ * The library drives no memory module: it says what may be done to one. `image` is the table as the module held it at
+ * the last flush, in ordinary memory.
+ *   Start      Read the module into `image` and call skaldrift_open. State and log may hold anything before.
+ *   A delta    Call skaldrift_gate. On 0 store the delta to the module, what falls into one aligned chunk of 8 bytes in
+ *              one store. When the module's own flush is through, call skaldrift_flush.
+ *   A reader   Call skaldrift_read, which sees the outstanding writes too.
+ *   Power loss Start again. What the module holds then is one of the images that the gate has judged, so the opening
+ *              is done.
+ * The promise holds as long as sheet and length stay the same, every call is handed the state as the calls before left
+ * it, nothing else touches image, state and log, and a write is recorded only when it was admitted: by skaldrift_gate,
+ * or by skaldrift_write or skaldrift_tape_write right after skaldrift_judge answered 0 on that same state.
+ * skaldrift_cut and the tape calls play power cuts through: for tests, and for engineers who want to see what is left.
  *
  * THE BUFFERS
  *   state      65 words: the count of outstanding writes, then address and length of each of 32 records, oldest
@@ -19,17 +38,47 @@
  *   image      the table, L bytes, at most 4096; L is the length that this call is handed.
  *   log        1024 bytes: the outstanding writes' data, packed oldest first.
  *   work       a working image of L bytes.
- *   sheet      the rule sheet, at most 512 bytes.
+ *   sheet      the rule sheet, at most 512 bytes (below).
  *   rows       a row table: one row of SKALDRIFT_ROW_BYTES(L) bytes for each outstanding write, oldest first. Bit c
  *              of a row (chunk 0 in the top bit of its first byte) keeps the write's bytes in chunk c. The bits
  *              after the last chunk are 0.
- *   tape       epochs: a header byte, 0x80 (a flush will end it) or 0x00 (a cut will), then one row for each write.
+ *   tape       epochs: a header byte, 0x80 (a flush will end it) or 0x00 (a cut will), then one row for each write,
+ *              under 0x80 too.
+ *   start      where the epoch begins on the tape: 0 at first, then what the last tape flush or cut left. An opening
+ *              keeps it.
  *   predicted  an image of L bytes: what the tape says is to come.
  *
+ * THE SHEET
+ * Bits, most significant first: edition (4 bits, 1), one rule, then fewer than 8 zero bits to the byte's end. A rule is
+ *   00  address (16) low (8) high (8)   that byte is from low to high
+ *   01  address (16) address (16)       the two bytes are equal
+ *   10  count (6) members               all of the rules that follow hold; with none, true
+ *   11  count (6) members               any of them holds; with none, false
+ * An address at or past L makes its rule false. Groups nest at most 8 deep, the innermost clause counted.
+ *   18 00                          always holds
+ *   1C 00                          never holds
+ *   14 00 1C 00 20                 byte 7 equals byte 8
+ *   1C 20 00 0C 44 44 00 03 22 22  byte 3 is 0x11 or 0x22
+ *
+ * CHOICE POINTS
+ * Each chunk that an outstanding write touches is one: points are numbered from 0, oldest write first, lowest chunk
+ * first. Choice number m keeps point i exactly if bit i of m is 1, and what it doesn't keep is lost.
+ *
  * ANSWERS
- * Every call answers one of the numbers below, the first that applies in the order 1, 5, 2, 3, 4, 12, 6, 7, 8, 10,
+ * Every call but skaldrift_state_words answers one of the numbers below, the first that applies in the order 1, 5, 2, 3, 4, 12, 6, 7, 8, 10,
  * 9, 11 among those it can meet, and 0 otherwise. Every refusal leaves all memory as it was, the state, the start
  * and `report` too, but for 8, which says so. A state that is not 65 words is 1 at every call.
+ *
+ * AFTER A REFUSAL
+ *   1           A length is wrong, or something overwrote the state: mend it, or open again.
+ *   2           The delta doesn't fit the table.
+ *   3, 4, 7     Flush, and try again. On an empty log the delta itself is too large: send it in parts.
+ *   5           Mend the sheet.
+ *   6           The table isn't one that the sheet allows: don't dose by it, restore it.
+ *   8           Nothing was recorded. `work` is an image that a power cut could have left and that breaks the sheet:
+ *               flush first, or send the delta in another order.
+ *   9, 10, 11   The rows or the tape don't fit the log.
+ * A verdict at 16 choice points tries 65536 images (docs/BENCH.md has times).
  */
 #ifndef SKALDRIFT_H
 #define SKALDRIFT_H
@@ -85,7 +134,7 @@ extern "C" {
 #define SKALDRIFT_FLUSH_HEADER 0x80
 #define SKALDRIFT_CUT_HEADER 0x00
 
-/* 65, for a program that would rather ask. */
+/* 65, for a program that would rather ask: what it was built for against what it links. */
 uint64_t skaldrift_state_words(void);
 
 /*

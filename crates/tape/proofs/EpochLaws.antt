@@ -69,7 +69,7 @@ module _ (tape : List ℕ) (start : ℕ) where
   abbrev either : Bool
   either = flush-foretold tape start || eqb (header tape start) cut-header
 
-  -- "a start at or past the tape's end": for every number
+  -- a start at or past the tape's end, for every number
   pub past-the-end : length tape ≤ start → header-right tape start ≡ false
   past-the-end h = and-unless (ltb start (length tape)) either (le-ltb start (length tape) h)
 

@@ -104,6 +104,6 @@ module _ (K : ℕ) where
       (subst (λ (t : List ℕ). Tells K t (row-place K (length before) (length (e .rows))) es) (append-assoc before (epoch-bytes K e) (tape-of K es))
       (subst (λ (i : ℕ). Tells K ((before ++ epoch-bytes K e) ++ tape-of K es) i es) place rest))
 
-  -- "the tape fixed before the run and its start 0"
+  -- the tape is fixed before the run, and its start is 0
   pub every-future-has-a-tape : (es : List Foreseen) → AllOfWidth K es → are-bytes (tape-of K es) × Tells K (tape-of K es) 0 es
   every-future-has-a-tape es w = (bytes-of-tape es w, tells-behind [] es w)

@@ -124,7 +124,7 @@ module _ (image : List ℕ) (st : State) (log tape : List ℕ) (start : ℕ) (pr
         ending = ended (told .facts .few) (came-true (emptied st) st none (p .state-after)) (came-true (next-start (length image) st start) start none (p .start-after)) i (came-true (predicted-now image st log tape start) predicted none (p .predicted-after));
       }
 
-  -- "an accepted flush or cut leaves what was predicted": where the buffer held the prediction before
+  -- an accepted flush or cut leaves what was predicted, where the buffer held the prediction before
   pub leaves-the-predicted : {st′ : State} {start′ : ℕ} {image′ predicted′ : List ℕ} → predicted ≡ predicted-image C tape start v → StepOfEnding st′ start′ image′ predicted′ → image′ ≡ predicted
   leaves-the-predicted p e = e .image-after ∙ sym p
 

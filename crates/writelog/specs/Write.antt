@@ -1,4 +1,4 @@
--- The plain write. Document 01: it meets 1, 2, 3, 4. `write` of pmem_async_spec_t.rs is what it does to the view (`proofs/Views.antt`).
+-- The plain write. Document 01: it meets 1, 2, 3, 4. `write` of pmem_async_spec_t.rs is what it does to the view (`Views` of `records`).
 use Prim.Native.Nat.{ℕ, _+_}
 use mathlib.Core.Path.{_≡_}
 use mathlib.Core.List.{List}
