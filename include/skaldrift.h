@@ -5,7 +5,7 @@
  *
  *     cc -I include main.c target/staticlib/libskaldrift.a
  *
- * C11 and C++11. It allocates nothing and calls nothing outside itself.
+ * C11 and C++11. It allocates nothing; of the C library it uses memcpy and memset.
  *
  * Every function here is proved: it ends, stays inside the memory that it is lent, and answers and leaves behind
  * exactly what is said below, for all inputs. None trusts its caller to have checked anything. What no proof can
