@@ -8,7 +8,7 @@ use mathlib.Core.List.{List, [], _∷_}
 use lib.ListN.{length, getD, replicate, set}
 use Rattle.region.specs.Limits.{const-persistence-chunk-size}
 use Rattle.region.specs.declared.Answer.the-variants.{Done, Refused}
-use Rattle.region.specs.declared.Refusal.the-variants.{BrokenImage}
+use Rattle.region.specs.declared.Refusal.the-variants.{BadState, BrokenImage}
 use Rattle.replay.specs.AsyncSpec.{AsyncView, flush-selective, can-crash}
 use Rattle.cuts.proofs.Shape.{shaped-rows-crash}
 use Rattle.cuts.proofs.Tables.{rows-at-shape}
@@ -24,11 +24,12 @@ use Rattle.gate.specs.declared.Verdict.the-variants.{Admitted, Denied}
 use Rattle.tape.specs.Write.{TapeWrites}
 use Rattle.tape.specs.Cut.{TapeCuts}
 use Rattle.session.specs.History.{written, flushed, cut-by, reopened, opening, _then_, rows-there}
-use Rattle.session.specs.Run.{desk, seen}
+use Rattle.session.specs.Run.{desk, seen, opened}
 use Rattle.session.specs.Theorem.{Session}
-use Rattle.session.specs.TapeTheorem.{TapeSession}
+use Rattle.session.specs.TapeTheorem.{TapeSession, prediction}
+use Rattle.session.proofs.Theorem.{session}
 use Rattle.histories.proofs.Computing.{everything}
-use Rattle.histories.proofs.Worked.{zeros, eight-is-nine, any-state, any-log, aa, cc, image-aa, image-cc, one-write, log-aa, log-cc, tape, the-opening, the-admitted-write, the-tape-write, the-tape-cut}
+use Rattle.histories.proofs.Worked.{zeros, eight-is-nine, any-state, any-log, aa, cc, image-aa, image-cc, one-write, log-aa, log-cc, tape, the-opening, the-admitted-write, the-tape-write}
 
 -- the image that a cut by a table leaves
 table-leaves : (v : AsyncView) (table : List ℕ) → can-crash const-persistence-chunk-size v (flush-selective const-persistence-chunk-size v (rows-there const-persistence-chunk-size v table 0))
@@ -39,6 +40,18 @@ a = 0xAA ∷ []
 
 abbrev one : List ℕ
 one = 0x01 ∷ []
+
+-- "Open an image that obeys the sheet": byte 8 isn't byte 9, the opening says so, and a flush all the same leaves what was there
+pub broken-from-the-start :
+    Opens (set zeros 8 0xAA) fresh any-log eight-is-nine (Refused BrokenImage) fresh
+    × Flushes (set zeros 8 0xAA) fresh any-log Done (emptied fresh) (set zeros 8 0xAA)
+    × (Session eight-is-nine (set zeros 8 0xAA) (opening then flushed) (desk (set zeros 8 0xAA) (emptied fresh) any-log) → ⊥)
+unfolding everything
+broken-from-the-start = (
+  record { answers = refl; state-after = refl },
+  record { answers = refl; state-after = refl; image-after = refl },
+  λ s. let broken : false ≡ true = s .cuts-obey _ (table-leaves (seen (desk (set zeros 8 0xAA) (emptied fresh) any-log)) []) in false≢true broken,
+)
 
 -- "record a write only when the gate has admitted it": a plain write that nobody judged
 pub unjudged-write :
@@ -111,16 +124,24 @@ touched-from-outside = (
   λ s. let broken : false ≡ true = s .cuts-obey _ (table-leaves (seen (desk (set zeros 8 0xAA) fresh any-log)) []) in false≢true broken,
 )
 
--- "Keep that .. length": the first 8 bytes of the image alone
+-- "Keep that .. length": over 8 bytes there is no byte 8, and `either-zero` says that byte 0 is 0. The gate is handed 16 bytes, the 8 and 8 zeros
+-- behind them, and admits 01 at 0. Over the 8 bytes a cut leaves it, and the next opening refuses the image.
+abbrev eight-zeros : List ℕ
+eight-zeros = replicate 8 0
+
 pub other-length :
-    Opens zeros any-state any-log eight-is-nine Done fresh
-    × Flushes (replicate 8 0) fresh any-log Done (emptied fresh) (replicate 8 0)
-    × (Session eight-is-nine zeros (opening then flushed) (desk (replicate 8 0) (emptied fresh) any-log) → ⊥)
+    Opens eight-zeros any-state any-log either-zero Done fresh
+    × Gates zeros fresh any-log either-zero zeros 0 one (Admitted 1) (appended fresh 0 1) (set any-log 0 0x01) (set zeros 0 0x01)
+    × Cuts eight-zeros (appended fresh 0 1) (set any-log 0 0x01) (0x80 ∷ []) (Kept 1) (emptied (appended fresh 0 1)) (set eight-zeros 0 0x01)
+    × Opens (set eight-zeros 0 0x01) any-state any-log either-zero (Refused BrokenImage) any-state
+    × (Session either-zero eight-zeros (opening then written 0 one) (desk eight-zeros (appended fresh 0 1) (set any-log 0 0x01)) → ⊥)
 unfolding everything
 other-length = (
-  the-opening,
+  record { answers = refl; state-after = refl },
+  record { answers = refl; state-after = refl; log-after = refl; work-after = refl },
   record { answers = refl; state-after = refl; image-after = refl },
-  λ s. let broken : _≡_ {A = ℕ} 8 16 = ap length (s .image-is-the-replay) in absurd (omega arith),
+  record { answers = refl; state-after = refl },
+  λ s. let broken : false ≡ true = s .cuts-obey _ (table-leaves (seen (desk eight-zeros (appended fresh 0 1) (set any-log 0 0x01))) (0x80 ∷ [])) in false≢true broken,
 )
 
 -- "hand every call the state .. as the calls before left it": a flush that is handed the state from before the write forgets it
@@ -135,12 +156,56 @@ old-state = (
   λ s. let broken : _≡_ {A = ℕ} 0 0xAA = ap (λ (x : List ℕ). getD x 8 0) (s .image-is-the-replay) in absurd (omega arith),
 )
 
--- By tape. "and a tape call the start too": after the cut the epoch starts at 2, and not again at 0
-pub old-start :
-    TapeCuts image-aa one-write log-cc tape 0 image-cc (Kept 1) (emptied one-write) 2 image-cc image-cc
-    × (TapeSession eight-is-nine tape image-aa (opening then written 8 cc then cut-by tape 1) (desk image-cc (emptied one-write) log-cc) 0 → ⊥)
+-- "given buffers of the right size": all that the theorem says holds, and an opening over a log buffer of 1023 bytes is refused with 1
+pub short-log :
+    Session eight-is-nine zeros opening (desk zeros fresh any-log)
+    × Opens zeros fresh (replicate 1023 0xEE) eight-is-nine (Refused BadState) fresh
 unfolding everything
-old-start = (the-tape-cut, λ s. let broken : _≡_ {A = ℕ} 0 2 = s .start-is-told in absurd (omega arith))
+short-log = (session eight-is-nine zeros (opened the-opening), record { answers = refl; state-after = refl })
+
+-- By tape. "and a tape call the start too": after the cut the epoch starts at 2, and its row keeps nothing. The next write is judged and admitted; handed
+-- the start 0 it is predicted by the row of the epoch before, which keeps it.
+abbrev two-epochs : List ℕ
+two-epochs = 0x00 ∷ 0x40 ∷ 0x00 ∷ 0x00 ∷ []
+
+abbrev dd : List ℕ
+dd = 0xDD ∷ 0xDD ∷ []
+
+abbrev image-dd : List ℕ
+image-dd = set (set zeros 8 0xDD) 9 0xDD
+
+abbrev log-dd : List ℕ
+log-dd = set (set any-log 0 0xDD) 1 0xDD
+
+pub old-start :
+    TapeWrites image-aa fresh log-aa two-epochs 0 zeros 8 cc Done one-write log-cc image-cc
+    × TapeCuts image-aa one-write log-cc two-epochs 0 image-cc (Kept 1) (emptied one-write) 2 image-cc image-cc
+    × Judges image-cc (emptied one-write) log-cc eight-is-nine zeros 8 dd (Admitted 1) image-dd
+    × TapeWrites image-cc (emptied one-write) log-cc two-epochs 0 image-cc 8 dd Done one-write log-dd image-dd
+    × (image-dd ≡ prediction const-persistence-chunk-size two-epochs image-aa (opening then written 8 cc then cut-by two-epochs 1 then written 8 dd) → ⊥)
+unfolding everything
+old-start = (
+  record { answers = refl; state-after = refl; log-after = refl; predicted-after = refl },
+  record { answers = refl; state-after = refl; start-after = refl; image-after = refl; predicted-after = refl },
+  record { answers = refl; work-after = refl },
+  record { answers = refl; state-after = refl; log-after = refl; predicted-after = refl },
+  λ e. let broken : _≡_ {A = ℕ} 0xDD 0xCC = ap (λ (x : List ℕ). getD x 8 0) e in absurd (omega arith),
+)
+
+-- "a tape of cut choices fixed beforehand": the write is predicted by one tape, and cut by another that keeps nothing
+abbrev other-tape : List ℕ
+other-tape = 0x00 ∷ 0x00 ∷ []
+
+pub changed-tape :
+    TapeWrites image-aa fresh log-aa tape 0 zeros 8 cc Done one-write log-cc image-cc
+    × TapeCuts image-aa one-write log-cc other-tape 0 image-cc (Kept 0) (emptied one-write) 2 image-aa image-aa
+    × (TapeSession eight-is-nine tape image-aa (opening then written 8 cc then cut-by other-tape 1) (desk image-aa (emptied one-write) log-cc) 2 → ⊥)
+unfolding everything
+changed-tape = (
+  the-tape-write,
+  record { answers = refl; state-after = refl; start-after = refl; image-after = refl; predicted-after = refl },
+  λ s. let broken : _≡_ {A = ℕ} 0xAA 0xCC = ap (λ (v : AsyncView). getD (v .state-at-last-flush) 8 0) (s .view-is-told) in absurd (omega arith),
+)
 
 -- "every recorded write, flush and cut going by it": a cut by rows of its own, which keeps nothing
 pub cut-past-the-tape :
