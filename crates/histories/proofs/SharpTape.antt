@@ -1,5 +1,5 @@
--- Every premise of demand 3 by tape is needed: as in `Sharp`, a history for each that breaks it alone, and then the image predicted isn't the replay with
--- the tape's choices. Assumes nothing.
+-- Every premise of demand 3 by tape is needed: as in `Sharp`, for each a history that breaks it alone, after which the conclusion about the tape's
+-- choices is false. Assumes nothing.
 use Prim.Native.Nat.{ℕ}
 use native.Mathlib.Omega.{arith}
 use mathlib.Core.Path.{_≡_, refl, ap}
