@@ -1,14 +1,14 @@
 -- Every premise of demand 3 is needed: for each a history that breaks it alone, its calls' promises kept to the byte, after which the theorem's
--- conclusion is false. Assumes nothing.
+-- conclusion is false. Those of a session by tape are in `SharpTape`. Assumes nothing.
 use Prim.Native.Nat.{ℕ}
 use native.Mathlib.Omega.{arith}
 use mathlib.Core.Path.{_≡_, refl, ap}
 use mathlib.Core.Bool.{true, false, false≢true}
 use mathlib.Core.List.{List, [], _∷_}
-use lib.ListN.{length, getD, replicate, set}
+use lib.ListN.{getD, replicate, set}
 use Rattle.region.specs.Limits.{const-persistence-chunk-size}
 use Rattle.region.specs.declared.Answer.the-variants.{Done, Refused}
-use Rattle.region.specs.declared.Refusal.the-variants.{BrokenImage}
+use Rattle.region.specs.declared.Refusal.the-variants.{BadState, BrokenImage}
 use Rattle.replay.specs.AsyncSpec.{AsyncView, flush-selective, can-crash}
 use Rattle.cuts.proofs.Shape.{shaped-rows-crash}
 use Rattle.cuts.proofs.Tables.{rows-at-shape}
@@ -21,14 +21,12 @@ use Rattle.writelog.specs.declared.cut.CutAnswer.the-variants.{Kept}
 use Rattle.gate.specs.Opening.{fresh, Opens}
 use Rattle.gate.specs.Judgement.{Judges, Gates}
 use Rattle.gate.specs.declared.Verdict.the-variants.{Admitted, Denied}
-use Rattle.tape.specs.Write.{TapeWrites}
-use Rattle.tape.specs.Cut.{TapeCuts}
-use Rattle.session.specs.History.{written, flushed, cut-by, reopened, opening, _then_, rows-there}
-use Rattle.session.specs.Run.{desk, seen}
+use Rattle.session.specs.History.{written, flushed, reopened, opening, _then_, rows-there}
+use Rattle.session.specs.Run.{desk, seen, opened}
 use Rattle.session.specs.Theorem.{Session}
-use Rattle.session.specs.TapeTheorem.{TapeSession}
+use Rattle.session.proofs.Theorem.{session}
 use Rattle.histories.proofs.Computing.{everything}
-use Rattle.histories.proofs.Worked.{zeros, eight-is-nine, any-state, any-log, aa, cc, image-aa, image-cc, one-write, log-aa, log-cc, tape, the-opening, the-admitted-write, the-tape-write, the-tape-cut}
+use Rattle.histories.proofs.Worked.{zeros, eight-is-nine, any-state, any-log, aa, image-aa, one-write, log-aa, the-opening, the-admitted-write}
 
 -- the image that a cut by a table leaves
 table-leaves : (v : AsyncView) (table : List ℕ) → can-crash const-persistence-chunk-size v (flush-selective const-persistence-chunk-size v (rows-there const-persistence-chunk-size v table 0))
@@ -39,6 +37,18 @@ a = 0xAA ∷ []
 
 abbrev one : List ℕ
 one = 0x01 ∷ []
+
+-- "Open an image that obeys the sheet": byte 8 isn't byte 9, the opening says so, and a flush all the same leaves what was there
+pub broken-from-the-start :
+    Opens (set zeros 8 0xAA) fresh any-log eight-is-nine (Refused BrokenImage) fresh
+    × Flushes (set zeros 8 0xAA) fresh any-log Done (emptied fresh) (set zeros 8 0xAA)
+    × (Session eight-is-nine (set zeros 8 0xAA) (opening then flushed) (desk (set zeros 8 0xAA) (emptied fresh) any-log) → ⊥)
+unfolding everything
+broken-from-the-start = (
+  record { answers = refl; state-after = refl },
+  record { answers = refl; state-after = refl; image-after = refl },
+  λ s. let broken : false ≡ true = s .cuts-obey _ (table-leaves (seen (desk (set zeros 8 0xAA) (emptied fresh) any-log)) []) in false≢true broken,
+)
 
 -- "record a write only when the gate has admitted it": a plain write that nobody judged
 pub unjudged-write :
@@ -111,16 +121,24 @@ touched-from-outside = (
   λ s. let broken : false ≡ true = s .cuts-obey _ (table-leaves (seen (desk (set zeros 8 0xAA) fresh any-log)) []) in false≢true broken,
 )
 
--- "Keep that .. length": the first 8 bytes of the image alone
+-- "Keep that .. length": over 8 bytes there is no byte 8, and `either-zero` says that byte 0 is 0. The gate is handed 16 bytes, the 8 and 8 zeros
+-- behind them, and admits 01 at 0. Over the 8 bytes a cut leaves it, and the next opening refuses the image.
+abbrev eight-zeros : List ℕ
+eight-zeros = replicate 8 0
+
 pub other-length :
-    Opens zeros any-state any-log eight-is-nine Done fresh
-    × Flushes (replicate 8 0) fresh any-log Done (emptied fresh) (replicate 8 0)
-    × (Session eight-is-nine zeros (opening then flushed) (desk (replicate 8 0) (emptied fresh) any-log) → ⊥)
+    Opens eight-zeros any-state any-log either-zero Done fresh
+    × Gates zeros fresh any-log either-zero zeros 0 one (Admitted 1) (appended fresh 0 1) (set any-log 0 0x01) (set zeros 0 0x01)
+    × Cuts eight-zeros (appended fresh 0 1) (set any-log 0 0x01) (0x80 ∷ []) (Kept 1) (emptied (appended fresh 0 1)) (set eight-zeros 0 0x01)
+    × Opens (set eight-zeros 0 0x01) any-state any-log either-zero (Refused BrokenImage) any-state
+    × (Session either-zero eight-zeros (opening then written 0 one) (desk eight-zeros (appended fresh 0 1) (set any-log 0 0x01)) → ⊥)
 unfolding everything
 other-length = (
-  the-opening,
+  record { answers = refl; state-after = refl },
+  record { answers = refl; state-after = refl; log-after = refl; work-after = refl },
   record { answers = refl; state-after = refl; image-after = refl },
-  λ s. let broken : _≡_ {A = ℕ} 8 16 = ap length (s .image-is-the-replay) in absurd (omega arith),
+  record { answers = refl; state-after = refl },
+  λ s. let broken : false ≡ true = s .cuts-obey _ (table-leaves (seen (desk eight-zeros (appended fresh 0 1) (set any-log 0 0x01))) (0x80 ∷ [])) in false≢true broken,
 )
 
 -- "hand every call the state .. as the calls before left it": a flush that is handed the state from before the write forgets it
@@ -135,33 +153,9 @@ old-state = (
   λ s. let broken : _≡_ {A = ℕ} 0 0xAA = ap (λ (x : List ℕ). getD x 8 0) (s .image-is-the-replay) in absurd (omega arith),
 )
 
--- By tape. "and a tape call the start too": after the cut the epoch starts at 2, and not again at 0
-pub old-start :
-    TapeCuts image-aa one-write log-cc tape 0 image-cc (Kept 1) (emptied one-write) 2 image-cc image-cc
-    × (TapeSession eight-is-nine tape image-aa (opening then written 8 cc then cut-by tape 1) (desk image-cc (emptied one-write) log-cc) 0 → ⊥)
+-- "given buffers of the right size": all that the theorem says holds, and an opening over a log buffer of 1023 bytes is refused with 1
+pub short-log :
+    Session eight-is-nine zeros opening (desk zeros fresh any-log)
+    × Opens zeros fresh (replicate 1023 0xEE) eight-is-nine (Refused BadState) fresh
 unfolding everything
-old-start = (the-tape-cut, λ s. let broken : _≡_ {A = ℕ} 0 2 = s .start-is-told in absurd (omega arith))
-
--- "every recorded write, flush and cut going by it": a cut by rows of its own, which keeps nothing
-pub cut-past-the-tape :
-    TapeWrites image-aa fresh log-aa tape 0 zeros 8 cc Done one-write log-cc image-cc
-    × Cuts image-aa one-write log-cc (0x00 ∷ []) (Kept 0) (emptied one-write) image-aa
-    × (TapeSession eight-is-nine tape image-aa (opening then written 8 cc then cut-by (0x00 ∷ []) 0) (desk image-aa (emptied one-write) log-cc) 2 → ⊥)
-unfolding everything
-cut-past-the-tape = (
-  the-tape-write,
-  record { answers = refl; state-after = refl; image-after = refl },
-  λ s. let broken : _≡_ {A = ℕ} 0xAA 0xCC = ap (λ (v : AsyncView). getD (v .state-at-last-flush) 8 0) (s .view-is-told) in absurd (omega arith),
-)
-
--- "a session by tape reopens only on an empty log": a reopening loses the write that the tape says is kept
-pub reopened-with-a-write :
-    TapeWrites image-aa fresh log-aa tape 0 zeros 8 cc Done one-write log-cc image-cc
-    × Opens image-aa one-write log-cc eight-is-nine Done fresh
-    × (TapeSession eight-is-nine tape image-aa (opening then written 8 cc then reopened) (desk image-aa fresh log-cc) 0 → ⊥)
-unfolding everything
-reopened-with-a-write = (
-  the-tape-write,
-  record { answers = refl; state-after = refl },
-  λ s. let broken : _≡_ {A = ℕ} 0 1 = ap (λ (v : AsyncView). length (v .outstanding-writes)) (s .view-is-told) in absurd (omega arith),
-)
+short-log = (session eight-is-nine zeros (opened the-opening), record { answers = refl; state-after = refl })
