@@ -62,13 +62,13 @@ module _ (words : List ℕ) (sized : length words ≡ state-words) where
 
   -- what goes by a function's number goes by the number of the call under it
   module _ (number : State → ℕ) where
-    number-here : number (state-of words) ≡ of-state words 1 number
+    pub number-here : number (state-of words) ≡ of-state words 1 number
     number-here = right words 1 number sized
 
-    by-call {ℓ} : {A : Type ℓ} (after before : A) {x : A} → x ≡ if-done (of-state words 1 number) after before → x ≡ if-done (number (state-of words)) after before
+    pub by-call {ℓ} : {A : Type ℓ} (after before : A) {x : A} → x ≡ if-done (of-state words 1 number) after before → x ≡ if-done (number (state-of words)) after before
     by-call after before e = e ∙ ap (λ (n : ℕ). if-done n after before) (sym number-here)
 
-    state-by-call : (after : State) {words′ : List ℕ} → words′ ≡ if-done (of-state words 1 number) (words-of after) words
+    pub state-by-call : (after : State) {words′ : List ℕ} → words′ ≡ if-done (of-state words 1 number) (words-of after) words
         → state-of words′ ≡ if-done (number (state-of words)) after (state-of words)
     state-by-call after e = state-by words (number (state-of words)) after (by-call (words-of after) words e)
 
