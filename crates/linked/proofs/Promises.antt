@@ -25,8 +25,8 @@ use Rattle.gate.specs.Judgement.{verdict-report, judge-report, judge-number, ju
 use Rattle.gate.specs.declared.Verdict.{Verdict}
 use Rattle.words.specs.Words.{state-words, state-of, words-of, of-state, reported}
 use Rattle.words.proofs.WordLaws.{state-back, said-length, words-length}
-use Rattle.skaldrift.specs.Log.{SkaldriftWrite, SkaldriftRead, SkaldriftFlush, SkaldriftCut}
-use Rattle.skaldrift.specs.Gate.{SkaldriftOpen, SkaldriftJudge, SkaldriftGate}
+use Rattle.skaldrift.specs.Log.{skaldrift-write-number, SkaldriftWrite, SkaldriftRead, skaldrift-flush-number, SkaldriftFlush, skaldrift-cut-number, SkaldriftCut}
+use Rattle.skaldrift.specs.Gate.{skaldrift-open-number, SkaldriftOpen, skaldrift-judge-number, SkaldriftJudge, SkaldriftGate}
 use Rattle.skaldrift.proofs.CallLaws.{right, report-by}
 use Rattle.linked.proofs.Numbers.{open-answers, write-answers, read-answers, flush-answers, cut-answers, cut-answered, judge-speaks}
 
@@ -43,7 +43,7 @@ state-by : (words : List ℕ) (n : ℕ) (after : State) {words′ : List ℕ} �
 state-by words zero after e = ap state-of e ∙ state-back after
 state-by words (suc why) after e = ap state-of e
 
--- and are 65 again
+-- and are 65 again, after any function whatever its number
 module _ (words : List ℕ) (sized : length words ≡ state-words) where
   sized-by : (n : ℕ) (after : State) {words′ : List ℕ} → length (after .records) ≡ writes-limit → words′ ≡ if-done n (words-of after) words → length words′ ≡ state-words
   sized-by zero after full e = ap length e ∙ words-length after full
@@ -57,8 +57,23 @@ module _ (words : List ℕ) (sized : length words ≡ state-words) where
   pub sized-emptied : (n : ℕ) {words′ : List ℕ} → words′ ≡ if-done n (words-of (emptied (state-of words))) words → length words′ ≡ state-words
   sized-emptied n = sized-by n (emptied (state-of words)) (said-length words sized)
 
-  pub sized-opened : (n : ℕ) {words′ : List ℕ} → words′ ≡ if-done n (words-of fresh) words → length words′ ≡ state-words
-  sized-opened n = sized-by n fresh refl
+  pub sized-after-open : {image log sheet : List ℕ} {number : ℕ} {words′ : List ℕ} → SkaldriftOpen words image log sheet number words′ → length words′ ≡ state-words
+  sized-after-open {image} {log} {sheet} p = sized-by (skaldrift-open-number words image log sheet) fresh refl (p .words-after)
+
+  pub sized-after-write : {image log : List ℕ} {addr : ℕ} {bytes : List ℕ} {number : ℕ} {words′ log′ : List ℕ} → SkaldriftWrite words image log addr bytes number words′ log′
+      → length words′ ≡ state-words
+  sized-after-write {image} {log} {addr} {bytes} p = sized-recorded (skaldrift-write-number words image log addr bytes) addr (length bytes) (p .words-after)
+
+  pub sized-after-gate : {image log sheet work : List ℕ} {addr : ℕ} {bytes : List ℕ} {report number : ℕ} {words′ log′ work′ : List ℕ} {report′ : ℕ}
+      → SkaldriftGate words image log sheet work addr bytes report number words′ log′ work′ report′ → length words′ ≡ state-words
+  sized-after-gate {image} {log} {sheet} {work} {addr} {bytes} p = sized-recorded (skaldrift-judge-number words image log sheet work addr bytes) addr (length bytes) (p .words-after)
+
+  pub sized-after-flush : {image log : List ℕ} {number : ℕ} {words′ image′ : List ℕ} → SkaldriftFlush words image log number words′ image′ → length words′ ≡ state-words
+  sized-after-flush {image} {log} p = sized-emptied (skaldrift-flush-number words image log) (p .words-after)
+
+  pub sized-after-cut : {image log rows : List ℕ} {report number : ℕ} {words′ image′ : List ℕ} {report′ : ℕ} → SkaldriftCut words image log rows report number words′ image′ report′
+      → length words′ ≡ state-words
+  sized-after-cut {image} {log} {rows} p = sized-emptied (skaldrift-cut-number words image log rows) (p .words-after)
 
   -- what goes by a function's number goes by the number of the call under it
   module _ (number : State → ℕ) where

@@ -27,11 +27,9 @@ use Rattle.session.specs.Run as run
 use Rattle.session.specs.Theorem.{Session}
 use Rattle.session.proofs.Theorem.{session}
 use Rattle.words.specs.Words.{state-words, state-of}
-use Rattle.skaldrift.specs.Log.{skaldrift-write-number, skaldrift-flush-number, skaldrift-cut-number}
-use Rattle.skaldrift.specs.Gate.{skaldrift-open-number, skaldrift-judge-number, SkaldriftOpen, SkaldriftJudge}
-use Rattle.skaldrift.specs.Tape.{skaldrift-tape-write-number, skaldrift-tape-flush-number, skaldrift-tape-cut-number}
-use Rattle.linked.proofs.Promises.{done-sized, sized-recorded, sized-emptied, sized-opened, linked-open, linked-write, linked-read, linked-flush, linked-cut, linked-judge, linked-gate}
-use Rattle.linked.proofs.TapePromises.{linked-tape-write, linked-tape-flush, linked-tape-cut}
+use Rattle.skaldrift.specs.Gate.{SkaldriftOpen, SkaldriftJudge}
+use Rattle.linked.proofs.Promises.{done-sized, sized-after-open, sized-after-write, sized-after-gate, sized-after-flush, sized-after-cut, linked-open, linked-write, linked-read, linked-flush, linked-cut, linked-judge, linked-gate}
+use Rattle.linked.proofs.TapePromises.{sized-after-tape-write, sized-after-tape-flush, sized-after-tape-cut, linked-tape-write, linked-tape-flush, linked-tape-cut}
 use Rattle.linked.proofs.Calls.{Lent, lent, desk-of, if-0, Call, gate, judge, judged-write, judged-tape-write, refused-write, refused-tape-write, flush, tape-flush, cut, tape-cut, reopen, restart, read, Calls, opened, _and_}
 
 -- the event goes by the number
@@ -67,7 +65,7 @@ opens : {image words log sheet words′ : List ℕ} → SkaldriftOpen words imag
 opens {image} {words} {log} {sheet} p =
     let sized = done-sized words (λ st. open-number image log sheet) (sym (p .answers)) in
     let (a, same, o) = linked-open words sized p in
-    (sized-opened words sized (skaldrift-open-number words image log sheet) (p .words-after), rw (done-of a same) at o)
+    (sized-after-open words sized p, rw (done-of a same) at o)
 
 -- a verdict of number 0 is the library's
 admits : {image words log sheet work bytes work′ : List ℕ} {addr report report′ : ℕ} → length words ≡ state-words → SkaldriftJudge words image log sheet work addr bytes report 0 work′ report′
@@ -83,39 +81,31 @@ module _ (sheet : List ℕ) where
 
   -- each call leaves 65 words again, and is a step of the library
   pub call-is-a-step : {m : Lent} {e : Event} {m′ : Lent} → length (m .words) ≡ state-words → Call sheet m e m′ → (length (m′ .words) ≡ state-words) × Step sheet (desk-of m) e (desk-of m′)
-  call-is-a-step sized (gate {image} {words} {log} {work} {bytes} {addr = addr} p) =
-      let (v, same, told, g) = linked-gate words sized p in
-      (sized-recorded words sized (skaldrift-judge-number words image log sheet work addr bytes) addr (length bytes) (p .words-after), renamed (verdict-event v (written addr bytes) same) (run.gate g))
+  call-is-a-step sized (gate {words = words} p) = let (v, same, told, g) = linked-gate words sized p in (sized-after-gate words sized p, renamed (verdict-event v _ same) (run.gate g))
   call-is-a-step sized (judge {words = words} p) = let (v, same, told, j) = linked-judge words sized p in (sized, run.judge j)
-  call-is-a-step sized (judged-write {image} {words} {log} {bytes = bytes} {addr = addr} j p) =
+  call-is-a-step sized (judged-write {words = words} j p) =
       let (a, same, w) = linked-write words sized p in
-      (sized-recorded words sized (skaldrift-write-number words image log addr bytes) addr (length bytes) (p .words-after), renamed (answer-event a (written addr bytes) same) (run.judged-write (admits sized j .1) w))
-  call-is-a-step sized (judged-tape-write {image} {words} {log} {bytes = bytes} {tape = tape} {predicted} {addr = addr} {start = start} j p) =
+      (sized-after-write words sized p, renamed (answer-event a _ same) (run.judged-write (admits sized j .1) w))
+  call-is-a-step sized (judged-tape-write {words = words} j p) =
       let (a, same, w) = linked-tape-write words sized p in
-      (sized-recorded words sized (skaldrift-tape-write-number words image log tape start predicted addr bytes) addr (length bytes) (p .words-after), renamed (answer-event a (written addr bytes) same) (run.judged-tape-write (admits sized j .1) w))
-  call-is-a-step sized (refused-write {image} {words} {log} {bytes} {addr = addr} p) =
+      (sized-after-tape-write words sized p, renamed (answer-event a _ same) (run.judged-tape-write (admits sized j .1) w))
+  call-is-a-step sized (refused-write {words = words} p) =
       let (a, same, w) = linked-write words sized p in
       let (r, is) = refused-of a same in
-      (sized-recorded words sized (skaldrift-write-number words image log addr bytes) addr (length bytes) (p .words-after), run.refused-write (rw is at w))
-  call-is-a-step sized (refused-tape-write {image} {words} {log} {tape} {predicted} {bytes} {start = start} {addr} p) =
+      (sized-after-write words sized p, run.refused-write (rw is at w))
+  call-is-a-step sized (refused-tape-write {words = words} p) =
       let (a, same, w) = linked-tape-write words sized p in
       let (r, is) = refused-of a same in
-      (sized-recorded words sized (skaldrift-tape-write-number words image log tape start predicted addr bytes) addr (length bytes) (p .words-after), run.refused-tape-write (rw is at w))
-  call-is-a-step sized (flush {image} {words} {log} p) =
-      let (a, same, f) = linked-flush words sized p in
-      (sized-emptied words sized (skaldrift-flush-number words image log) (p .words-after), renamed (answer-event a flushed same) (run.flush f))
-  call-is-a-step sized (tape-flush {image} {words} {log} {tape} {predicted} {start = start} p) =
+      (sized-after-tape-write words sized p, run.refused-tape-write (rw is at w))
+  call-is-a-step sized (flush {words = words} p) = let (a, same, f) = linked-flush words sized p in (sized-after-flush words sized p, renamed (answer-event a _ same) (run.flush f))
+  call-is-a-step sized (tape-flush {words = words} p) =
       let (a, same, f) = linked-tape-flush words sized p in
-      (sized-emptied words sized (skaldrift-tape-flush-number words image log tape start predicted) (p .words-after), renamed (answer-event a flushed same) (run.tape-flush f))
-  call-is-a-step sized (cut {image} {words} {log} {rows} p) =
-      let (a, same, told, c) = linked-cut words sized p in
-      (sized-emptied words sized (skaldrift-cut-number words image log rows) (p .words-after), renamed (cut-event a (cut-by rows 0) same) (run.cut c))
-  call-is-a-step sized (tape-cut {image} {words} {log} {tape} {predicted} {start = start} p) =
+      (sized-after-tape-flush words sized p, renamed (answer-event a _ same) (run.tape-flush f))
+  call-is-a-step sized (cut {words = words} p) = let (a, same, told, c) = linked-cut words sized p in (sized-after-cut words sized p, renamed (cut-event a _ same) (run.cut c))
+  call-is-a-step sized (tape-cut {words = words} p) =
       let (a, same, told, c) = linked-tape-cut words sized p in
-      (sized-emptied words sized (skaldrift-tape-cut-number words image log tape start predicted) (p .words-after), renamed (cut-event a (cut-by tape (start + 1)) same) (run.tape-cut c))
-  call-is-a-step sized (reopen {image} {words} {log} p) =
-      let (a, same, o) = linked-open words sized p in
-      (sized-opened words sized (skaldrift-open-number words image log sheet) (p .words-after), renamed (answer-event a reopened same) (run.reopen o))
+      (sized-after-tape-cut words sized p, renamed (cut-event a _ same) (run.tape-cut c))
+  call-is-a-step sized (reopen {words = words} p) = let (a, same, o) = linked-open words sized p in (sized-after-open words sized p, renamed (answer-event a _ same) (run.reopen o))
   call-is-a-step sized (restart p) = let (again, o) = opens p in (again, run.restart o)
   call-is-a-step sized (read {words = words} p) = let (a, same, f) = linked-read words sized p in (sized, run.fill f)
 

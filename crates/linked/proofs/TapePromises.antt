@@ -16,14 +16,30 @@ use Rattle.tape.specs.Ending.{next-start, predicted-now}
 use Rattle.tape.specs.Flush.{tape-flush-number, TapeFlushes}
 use Rattle.tape.specs.Cut.{tape-cut-number, tape-kept, TapeCuts}
 use Rattle.words.specs.Words.{state-words, state-of, reported}
-use Rattle.skaldrift.specs.Tape.{SkaldriftTapeWrite, SkaldriftTapeFlush, SkaldriftTapeCut}
+use Rattle.skaldrift.specs.Tape.{skaldrift-tape-write-number, SkaldriftTapeWrite, skaldrift-tape-flush-number, SkaldriftTapeFlush, skaldrift-tape-cut-number, SkaldriftTapeCut}
 use Rattle.skaldrift.proofs.CallLaws.{report-by}
 use Rattle.linked.proofs.Numbers.{tape-write-answers, ending-answers, cut-answered}
-use Rattle.linked.proofs.Promises.{number-here, by-call, state-by-call}
+use Rattle.linked.proofs.Promises.{sized-recorded, sized-emptied, number-here, by-call, state-by-call}
 
 module _ (words : List ℕ) (sized : length words ≡ state-words) where
   abbrev st : State
   st = state-of words
+
+  -- the words are 65 again
+  pub sized-after-tape-write : {image log tape : List ℕ} {start : ℕ} {predicted : List ℕ} {addr : ℕ} {bytes : List ℕ} {number : ℕ} {words′ log′ predicted′ : List ℕ}
+      → SkaldriftTapeWrite words image log tape start predicted addr bytes number words′ log′ predicted′ → length words′ ≡ state-words
+  sized-after-tape-write {image} {log} {tape} {start} {predicted} {addr} {bytes} p =
+      sized-recorded words sized (skaldrift-tape-write-number words image log tape start predicted addr bytes) addr (length bytes) (p .words-after)
+
+  pub sized-after-tape-flush : {image log tape : List ℕ} {start : ℕ} {predicted : List ℕ} {number : ℕ} {words′ image′ : List ℕ} {start′ : ℕ} {predicted′ : List ℕ}
+      → SkaldriftTapeFlush words image log tape start predicted number words′ image′ start′ predicted′ → length words′ ≡ state-words
+  sized-after-tape-flush {image} {log} {tape} {start} {predicted} p =
+      sized-emptied words sized (skaldrift-tape-flush-number words image log tape start predicted) (p .words-after)
+
+  pub sized-after-tape-cut : {image log tape : List ℕ} {start : ℕ} {predicted : List ℕ} {report number : ℕ} {words′ image′ : List ℕ} {start′ : ℕ} {predicted′ : List ℕ} {report′ : ℕ}
+      → SkaldriftTapeCut words image log tape start predicted report number words′ image′ start′ predicted′ report′ → length words′ ≡ state-words
+  sized-after-tape-cut {image} {log} {tape} {start} {predicted} p =
+      sized-emptied words sized (skaldrift-tape-cut-number words image log tape start predicted) (p .words-after)
 
   -- skaldrift_tape_write
   pub linked-tape-write : {image log tape : List ℕ} {start : ℕ} {predicted : List ℕ} {addr : ℕ} {bytes : List ℕ} {number : ℕ} {words′ log′ predicted′ : List ℕ}
