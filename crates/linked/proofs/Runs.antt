@@ -33,7 +33,7 @@ use Rattle.linked.proofs.TapePromises.{sized-after-tape-write, sized-af
 use Rattle.linked.proofs.Calls.{Lent, lent, desk-of, if-0, Call, gate, judge, judged-write, judged-tape-write, refused-write, refused-tape-write, flush, tape-flush, cut, tape-cut, reopen, restart, read, Calls, opened, _and_}
 
 -- the event goes by the number
-answer-event : (a : Answer) (e : Event) {n : ℕ} → answer-number a ≡ n → if-answered a e ≡ if-0 n e
+pub answer-event : (a : Answer) (e : Event) {n : ℕ} → answer-number a ≡ n → if-answered a e ≡ if-0 n e
 answer-event answer.Done e same = done-changed e nothing (sym same)
 answer-event (answer.Refused why) e same = refused-left why e nothing (sym same)
 
@@ -42,15 +42,15 @@ verdict-event (verdict.Admitted k) e same = done-changed e nothing (sym same)
 verdict-event (verdict.Denied m) e same = ap (λ (n : ℕ). if-0 n e) same
 verdict-event (verdict.Refused why) e same = refused-left why e nothing (sym same)
 
-cut-event : (c : CutAnswer) (e : Event) {n : ℕ} → cut-report c .number ≡ n → if-cut c e ≡ if-0 n e
+pub cut-event : (c : CutAnswer) (e : Event) {n : ℕ} → cut-report c .number ≡ n → if-cut c e ≡ if-0 n e
 cut-event (cut-answer.Kept k) e same = done-changed e nothing (sym same)
 cut-event (cut-answer.Refused why) e same = refused-left why e nothing (sym same)
 
 -- number 0 is 'done' and 'admitted', and another is a refusal
-done-of : (a : Answer) → answer-number a ≡ 0 → a ≡ answer.Done
+pub done-of : (a : Answer) → answer-number a ≡ 0 → a ≡ answer.Done
 done-of a same = answers-by-number a answer.Done same
 
-admitted-of : (v : Verdict) → verdict-report v .number ≡ 0 → (n : ℕ) × (v ≡ verdict.Admitted n)
+pub admitted-of : (v : Verdict) → verdict-report v .number ≡ 0 → (n : ℕ) × (v ≡ verdict.Admitted n)
 admitted-of (verdict.Admitted n) same = (n, refl)
 admitted-of (verdict.Denied m) same = absurd (suc-ne-zero 7 same)
 admitted-of (verdict.Refused why) same = absurd (omega (arith, refusal-not-done why))
@@ -60,7 +60,7 @@ refused-of answer.Done {why} same = absurd (suc-ne-zero why (sym same))
 refused-of (answer.Refused r) same = (r, refl)
 
 -- a good opening is the library's, and leaves 65 words
-opens : {image words log sheet words′ : List ℕ} → SkaldriftOpen words image log sheet 0 words′
+pub opens : {image words log sheet words′ : List ℕ} → SkaldriftOpen words image log sheet 0 words′
     → (length words′ ≡ state-words) × Opens image (state-of words) log sheet answer.Done (state-of words′)
 opens {image} {words} {log} {sheet} p =
     let sized = done-sized words (λ st. open-number image log sheet) (sym (p .answers)) in
@@ -68,7 +68,7 @@ opens {image} {words} {log} {sheet} p =
     (sized-after-open words sized p, rw (done-of a same) at o)
 
 -- a verdict of number 0 is the library's
-admits : {image words log sheet work bytes work′ : List ℕ} {addr report report′ : ℕ} → length words ≡ state-words → SkaldriftJudge words image log sheet work addr bytes report 0 work′ report′
+pub admits : {image words log sheet work bytes work′ : List ℕ} {addr report report′ : ℕ} → length words ≡ state-words → SkaldriftJudge words image log sheet work addr bytes report 0 work′ report′
     → (n : ℕ) × Judges image (state-of words) log sheet work addr bytes (verdict.Admitted n) work′
 admits {words = words} sized p =
     let (v, same, told, j) = linked-judge words sized p in
