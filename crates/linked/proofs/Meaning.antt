@@ -9,7 +9,6 @@ use mathlib.Core.List.{List}
 use lib.ListN.{length}
 use Rattle.region.specs.Limits.{const-persistence-chunk-size}
 use Rattle.region.specs.Answer.{answer-number, refusal-number}
-use Rattle.region.specs.declared.Answer.{Answer}
 use Rattle.region.specs.declared.Refusal.{Refusal}
 use Rattle.region.specs.declared.Refusal.the-variants.{BadState, OutOfRange, TooManyWrites, TooManyBytes, BadSheet, BrokenImage, TooManyPoints, BadRows, BadTape, NotPredicted, TooManyRounds}
 use Rattle.region.specs.Pmemspec.{can-result-from-partial-write}
@@ -23,10 +22,10 @@ use Rattle.gate.specs.Meaning.{Fits, could-leave, image-of, Means, Openable}
 use Rattle.gate.specs.declared.Verdict.{Verdict}
 use Rattle.gate.specs.declared.Verdict.the-variants.{Admitted, Denied, Refused}
 use Rattle.gate.proofs.Gives.{opens-means}
-use Rattle.gate.proofs.Meaning.{judge-means, gate-means}
+use Rattle.gate.proofs.Meaning.{judge-means}
 use Rattle.words.specs.Words.{state-words, state-of, reported}
 use Rattle.skaldrift.specs.Gate.{SkaldriftOpen, SkaldriftJudge, SkaldriftGate}
-use Rattle.linked.proofs.Promises.{linked-open, linked-judge, linked-gate}
+use Rattle.linked.proofs.Promises.{linked-open, linked-judge}
 use Rattle.linked.proofs.Runs.{done-of, admitted-of}
 
 -- The same as gate's `Means`, by the number and what `report` holds afterwards

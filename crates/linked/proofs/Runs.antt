@@ -1,19 +1,18 @@
 -- A run of linked calls is a run of the library's: each call is a step from the state that the words say to the one that they say afterwards, and leaves 65 words. So
 -- the session theorem holds of it. Assumes nothing.
-use Prim.Native.Nat.{ℕ, suc, _+_}
+use Prim.Native.Nat.{ℕ, suc}
 use native.Mathlib.Nat.{suc-ne-zero}
 use native.Mathlib.Omega.{arith}
 use mathlib.Core.Path.{_≡_, refl, sym, ap, subst, _∙_}
 use mathlib.Core.List.{List}
 use lib.ListN.{length}
 use Rattle.region.specs.Limits.{const-persistence-chunk-size, log-limit}
-use Rattle.region.specs.Answer.{answer-number, refusal-number}
+use Rattle.region.specs.Answer.{answer-number}
 use Rattle.region.specs.declared.Answer.{Answer}
 use Rattle.region.specs.declared.Answer.the-variants as answer
 use Rattle.region.specs.declared.Refusal.{Refusal}
 use Rattle.region.proofs.AnswerLaws.{answers-by-number, refusal-not-done, done-changed, refused-left}
 use Rattle.replay.specs.AsyncSpec.{can-crash}
-use Rattle.records.specs.declared.state.State.{State}
 use Rattle.writelog.specs.Cut.{cut-report}
 use Rattle.writelog.specs.declared.cut.CutAnswer.{CutAnswer}
 use Rattle.writelog.specs.declared.cut.CutAnswer.the-variants as cut-answer
@@ -21,8 +20,8 @@ use Rattle.gate.specs.Opening.{open-number, Opens}
 use Rattle.gate.specs.Judgement.{verdict-report, Judges}
 use Rattle.gate.specs.declared.Verdict.{Verdict}
 use Rattle.gate.specs.declared.Verdict.the-variants as verdict
-use Rattle.session.specs.History.{Event, nothing, written, flushed, cut-by, reopened, History, opening, _then_, if-answered, if-admitted, if-cut}
-use Rattle.session.specs.Run.{Desk, desk, seen, Step, Run}
+use Rattle.session.specs.History.{Event, nothing, History, if-answered, if-admitted, if-cut}
+use Rattle.session.specs.Run.{Desk, seen, Step, Run}
 use Rattle.session.specs.Run as run
 use Rattle.session.specs.Theorem.{Session}
 use Rattle.session.proofs.Theorem.{session}
@@ -30,7 +29,7 @@ use Rattle.words.specs.Words.{state-words, state-of}
 use Rattle.skaldrift.specs.Gate.{SkaldriftOpen, SkaldriftJudge}
 use Rattle.linked.proofs.Promises.{done-sized, sized-after-open, sized-after-write, sized-after-gate, sized-after-flush, sized-after-cut, linked-open, linked-write, linked-read, linked-flush, linked-cut, linked-judge, linked-gate}
 use Rattle.linked.proofs.TapePromises.{sized-after-tape-write, sized-after-tape-flush, sized-after-tape-cut, linked-tape-write, linked-tape-flush, linked-tape-cut}
-use Rattle.linked.proofs.Calls.{Lent, lent, desk-of, if-0, Call, gate, judge, judged-write, judged-tape-write, refused-write, refused-tape-write, flush, tape-flush, cut, tape-cut, reopen, restart, read, Calls, opened, _and_}
+use Rattle.linked.proofs.Calls.{Lent, desk-of, if-0, Call, gate, judge, judged-write, judged-tape-write, refused-write, refused-tape-write, flush, tape-flush, cut, tape-cut, reopen, restart, read, Calls, opened, _and_}
 
 -- the event goes by the number
 pub answer-event : (a : Answer) (e : Event) {n : ℕ} → answer-number a ≡ n → if-answered a e ≡ if-0 n e
