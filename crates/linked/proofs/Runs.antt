@@ -45,9 +45,13 @@ pub cut-event : (c : CutAnswer) (e : Event) {n : ℕ} → cut-report c .number �
 cut-event (cut-answer.Kept k) e same = done-changed e nothing (sym same)
 cut-event (cut-answer.Refused why) e same = refused-left why e nothing (sym same)
 
--- number 0 is 'done' and 'admitted', and another is a refusal
+-- number 0 is 'done', 'kept' and 'admitted', and an answer's other numbers are refusals
 pub done-of : (a : Answer) → answer-number a ≡ 0 → a ≡ answer.Done
 done-of a same = answers-by-number a answer.Done same
+
+pub kept-of : (c : CutAnswer) → cut-report c .number ≡ 0 → (k : ℕ) × (c ≡ cut-answer.Kept k)
+kept-of (cut-answer.Kept k) same = (k, refl)
+kept-of (cut-answer.Refused why) same = absurd (omega (arith, refusal-not-done why))
 
 pub admitted-of : (v : Verdict) → verdict-report v .number ≡ 0 → (n : ℕ) × (v ≡ verdict.Admitted n)
 admitted-of (verdict.Admitted n) same = (n, refl)

@@ -1,19 +1,21 @@
 -- A run of linked calls by tape is a run of the library's by tape, so the theorem of a session by tape holds of it. Assumes nothing.
-use Prim.Native.Nat.{ℕ}
+use Prim.Native.Nat.{ℕ, _+_}
 use mathlib.Core.Path.{_≡_, subst}
 use mathlib.Core.List.{List}
 use lib.ListN.{length}
-use Rattle.session.specs.History.{Event, History}
+use Rattle.region.specs.Limits.{const-persistence-chunk-size}
+use Rattle.session.specs.History.{Event, written, flushed, cut-by, History, _then_}
 use Rattle.session.specs.Run.{Desk}
 use Rattle.session.specs.TapeRun.{TapeStep, TapeRun}
 use Rattle.session.specs.TapeRun as run
-use Rattle.session.specs.TapeTheorem.{TapeSession}
+use Rattle.session.specs.TapeTheorem.{prediction, TapeSession}
 use Rattle.session.proofs.TapeTheorem.{tape-session}
 use Rattle.words.specs.Words.{state-words}
+use Rattle.skaldrift.specs.Tape.{SkaldriftTapeWrite, SkaldriftTapeFlush, SkaldriftTapeCut}
 use Rattle.linked.proofs.Promises.{sized-after-open, linked-open}
 use Rattle.linked.proofs.TapePromises.{sized-after-tape-write, sized-after-tape-flush, sized-after-tape-cut, linked-tape-write, linked-tape-flush, linked-tape-cut}
 use Rattle.linked.proofs.Calls.{Lent, desk-of}
-use Rattle.linked.proofs.Runs.{answer-event, cut-event, opens, admits, call-is-a-step}
+use Rattle.linked.proofs.Runs.{answer-event, cut-event, done-of, kept-of, opens, admits, call-is-a-step}
 use Rattle.linked.proofs.TapeCalls.{TapeCall, judged-write, flush, cut, reopen, other, TapeCalls, opened, _and_}
 
 module _ (sheet tape : List ℕ) where
@@ -51,3 +53,28 @@ module _ (sheet tape : List ℕ) where
     -- the image predicted at each step is the replay with the tape's choices
     pub linked-tape-session : {h : History} {m : Lent} {start : ℕ} → TapeCalls sheet tape image h m start → TapeSession sheet tape image h (desk-of m) start
     linked-tape-session calls = tape-session sheet tape (linked-tape-run calls)
+
+    -- and what the next function by tape leaves, where it answers 0, is the prediction
+    module _ {h : History} {m : Lent} {start : ℕ} (calls : TapeCalls sheet tape image h m start) where
+      sized : length (m .words) ≡ state-words
+      sized = linked-both calls .0
+
+      pub linked-write-predicts : {predicted : List ℕ} {addr : ℕ} {bytes words′ log′ predicted′ : List ℕ}
+          → SkaldriftTapeWrite (m .words) (m .image) (m .log) tape start predicted addr bytes 0 words′ log′ predicted′
+          → predicted′ ≡ prediction const-persistence-chunk-size tape image (h then written addr bytes)
+      linked-write-predicts p = let (a, same, w) = linked-tape-write (m .words) sized p in linked-tape-session calls .write-predicts (rw (done-of a same) at w)
+
+      pub linked-flush-leaves-the-prediction : {predicted words′ image′ : List ℕ} {start′ : ℕ} {predicted′ : List ℕ}
+          → SkaldriftTapeFlush (m .words) (m .image) (m .log) tape start predicted 0 words′ image′ start′ predicted′
+          → (image′ ≡ prediction const-persistence-chunk-size tape image h) × (predicted′ ≡ prediction const-persistence-chunk-size tape image (h then flushed))
+      linked-flush-leaves-the-prediction p =
+          let (a, same, f) = linked-tape-flush (m .words) sized p in
+          linked-tape-session calls .flush-leaves-the-prediction (rw (done-of a same) at f)
+
+      pub linked-cut-leaves-the-prediction : {predicted : List ℕ} {report : ℕ} {words′ image′ : List ℕ} {start′ : ℕ} {predicted′ : List ℕ} {report′ : ℕ}
+          → SkaldriftTapeCut (m .words) (m .image) (m .log) tape start predicted report 0 words′ image′ start′ predicted′ report′
+          → (image′ ≡ prediction const-persistence-chunk-size tape image h) × (predicted′ ≡ prediction const-persistence-chunk-size tape image (h then cut-by tape (start + 1)))
+      linked-cut-leaves-the-prediction p =
+          let (a, same, told, c) = linked-tape-cut (m .words) sized p in
+          let (k, is) = kept-of a same in
+          linked-tape-session calls .cut-leaves-the-prediction (rw is at c)
