@@ -4,43 +4,22 @@ use native.Mathlib.Omega.{arith}
 use native.Mathlib.Nat.{suc-ne-zero}
 use mathlib.Core.Path.{_≡_, refl, sym, ap, _∙_}
 use mathlib.Core.Logic.{_↔_}
-use mathlib.Core.Bool.{true, false}
 use mathlib.Core.List.{List}
 use lib.ListN.{length}
-use Rattle.region.specs.Limits.{const-persistence-chunk-size}
 use Rattle.region.specs.Answer.{answer-number, refusal-number}
 use Rattle.region.specs.declared.Refusal.{Refusal}
 use Rattle.region.specs.declared.Refusal.the-variants.{BadState, OutOfRange, TooManyWrites, TooManyBytes, BadSheet, BrokenImage, TooManyPoints, BadRows, BadTape, NotPredicted, TooManyRounds}
-use Rattle.region.specs.Pmemspec.{can-result-from-partial-write}
-use Rattle.replay.specs.AsyncSpec.{write, readable, can-crash}
-use Rattle.verdict.specs.Search.{least-bad}
-use Rattle.verdict.specs.Gate.{gate-numbers}
-use Rattle.sheet.specs.Sheet.{obeys}
-use Rattle.records.specs.State.{view}
-use Rattle.gate.specs.Judgement.{denied-number, verdict-report, gate-points}
-use Rattle.gate.specs.Meaning.{Fits, could-leave, image-of, Means, Openable}
+use Rattle.gate.specs.Judgement.{denied-number, verdict-report}
+use Rattle.gate.specs.Meaning.{Means, Openable}
 use Rattle.gate.specs.declared.Verdict.{Verdict}
 use Rattle.gate.specs.declared.Verdict.the-variants.{Admitted, Denied, Refused}
 use Rattle.gate.proofs.Gives.{opens-means}
 use Rattle.gate.proofs.Meaning.{judge-means}
 use Rattle.words.specs.Words.{state-words, state-of, reported}
 use Rattle.skaldrift.specs.Gate.{SkaldriftOpen, SkaldriftJudge, SkaldriftGate}
+use Rattle.linked.specs.Meaning.{MeansByNumber}
 use Rattle.linked.proofs.Promises.{linked-open, linked-judge}
 use Rattle.linked.proofs.Runs.{done-of, admitted-of}
-
--- The same as gate's `Means`, by the number and what `report` holds afterwards
-pub record MeansByNumber (words image log sheet work : List ℕ) (addr : ℕ) (bytes : List ℕ) (number : ℕ) (work′ : List ℕ) (report′ : ℕ) : Type 0 where
-  pub admits : (number ≡ 0)
-      ↔ (Fits image (state-of words) log sheet work addr bytes × ((x : List ℕ) → could-leave (view image (state-of words) log) addr bytes x → obeys sheet x x ≡ true))
-  pub by-part-writes : (number ≡ 0)
-      ↔ (Fits image (state-of words) log sheet work addr bytes
-      × ((b a : List ℕ) → can-crash const-persistence-chunk-size (view image (state-of words) log) b → can-result-from-partial-write const-persistence-chunk-size a b addr bytes → obeys sheet a a ≡ true))
-  pub denies : (number ≡ denied-number)
-      ↔ (Fits image (state-of words) log sheet work addr bytes × ((x : List ℕ) × could-leave (view image (state-of words) log) addr bytes x × (obeys sheet x x ≡ false)))
-  pub names-the-first : number ≡ denied-number
-      → least-bad (λ k. obeys sheet (image-of (view image (state-of words) log) addr bytes k) (image-of (view image (state-of words) log) addr bytes k)) (gate-numbers const-persistence-chunk-size (view image (state-of words) log) addr bytes) report′
-  pub admitted-leaves : number ≡ 0 → (report′ ≡ gate-points image (state-of words) log addr bytes) × (work′ ≡ readable (write (view image (state-of words) log) addr bytes))
-  pub denied-leaves : number ≡ denied-number → work′ ≡ image-of (view image (state-of words) log) addr bytes report′
 
 -- 8 is a denial alone
 no-refusal-8 : (why : Refusal) → refusal-number why ≡ denied-number → ⊥

@@ -14,9 +14,9 @@ use Rattle.words.specs.Words.{state-words}
 use Rattle.skaldrift.specs.Tape.{SkaldriftTapeWrite, SkaldriftTapeFlush, SkaldriftTapeCut}
 use Rattle.linked.proofs.Promises.{sized-after-open, linked-open}
 use Rattle.linked.proofs.TapePromises.{sized-after-tape-write, sized-after-tape-flush, sized-after-tape-cut, linked-tape-write, linked-tape-flush, linked-tape-cut}
-use Rattle.linked.proofs.Calls.{Lent, desk-of}
+use Rattle.linked.specs.Calls.{Lent, desk-of}
 use Rattle.linked.proofs.Runs.{answer-event, cut-event, done-of, kept-of, opens, admits, call-is-a-step}
-use Rattle.linked.proofs.TapeCalls.{TapeCall, judged-write, flush, cut, reopen, other, TapeCalls, opened, _and_}
+use Rattle.linked.specs.TapeCalls.{TapeCall, judged-write, flush, cut, reopen, other, TapeCalls, opened, _and_}
 
 module _ (sheet tape : List ℕ) where
   renamed : {d d′ : Desk} {start start′ : ℕ} {e e′ : Event} → e ≡ e′ → TapeStep sheet tape d start e d′ start′ → TapeStep sheet tape d start e′ d′ start′

@@ -1,5 +1,5 @@
 -- The runs of a session as a desk makes them that links the functions: each step is a skaldrift_* call, or two, of which its own promise is given, on the desk's
--- own words and bytes, whatever the number. They are the steps of session's `Run`, said of the 65 words. Assumes nothing.
+-- own words and bytes, whatever the number. They are the steps of session's `Run`, said of the 65 words.
 use Prim.Native.Nat.{ℕ, suc, _+_}
 use mathlib.Core.List.{List}
 use Rattle.region.specs.Answer.{if-done}

@@ -1,4 +1,4 @@
--- The runs of a session by tape as a desk makes them that links the functions: session's `TapeRun`, said of the 65 words. Assumes nothing.
+-- The runs of a session by tape as a desk makes them that links the functions: session's `TapeRun`, said of the 65 words.
 use Prim.Native.Nat.{ℕ, _+_}
 use mathlib.Core.Path.{_≡_}
 use mathlib.Core.List.{List}
@@ -6,7 +6,7 @@ use lib.ListN.{getD}
 use Rattle.session.specs.History.{Event, nothing, written, flushed, cut-by, reopened, History, opening, _then_}
 use Rattle.skaldrift.specs.Gate.{SkaldriftOpen, SkaldriftJudge}
 use Rattle.skaldrift.specs.Tape.{SkaldriftTapeWrite, SkaldriftTapeFlush, SkaldriftTapeCut}
-use Rattle.linked.proofs.Calls.{Lent, lent, if-0, Call}
+use Rattle.linked.specs.Calls.{Lent, lent, if-0, Call}
 
 module _ (sheet tape : List ℕ) where
   -- the memory and the epoch's start, before and after
