@@ -31,13 +31,11 @@ module _ (sheet tape : List ℕ) where
         → TapeStep (desk image st log) start (if-cut answer (cut-by tape (start + 1))) (desk image′ st′ log) start′
     -- "a session by tape reopens only on an empty log", and "a reopening keeps" the start
     reopen : {image log : List ℕ} {st st′ : State} {start : ℕ} {answer : Answer}
-        → st .count ≡ 0
-        → Opens image st log sheet answer st′
+        → st .count ≡ 0 → Opens image st log sheet answer st′
         → TapeStep (desk image st log) start (if-answered answer reopened) (desk image st′ log) start
     -- a good one that is handed other memory for the state and the log: after a power loss these hold anything
     restart : {image log log₀ : List ℕ} {st st₀ st′ : State} {start : ℕ}
-        → st .count ≡ 0
-        → Opens image st₀ log₀ sheet Done st′
+        → st .count ≡ 0 → Opens image st₀ log₀ sheet Done st′
         → TapeStep (desk image st log) start reopened (desk image st′ log₀) start
     -- any other call that leaves nothing behind in the history: verdicts, reads, denials, refusals
     other : {d : Desk} {start : ℕ} {d′ : Desk} → Step sheet d nothing d′ → TapeStep d start nothing d′ start
