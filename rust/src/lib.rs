@@ -45,7 +45,7 @@ mod region;
 #[allow(missing_docs)]
 pub mod sys;
 
-pub use region::{ByTape, Region, Verdict};
+pub use region::{ByTape, Region, Unopened, Verdict};
 
 /// The words of a state: the count of outstanding writes, then address and length of each of 32 records.
 pub const STATE_WORDS: usize = 65;

@@ -1,5 +1,6 @@
 //! The table and its log, with every length right by construction.
 use crate::{calls, chunks, done, row_bytes, Refusal, LOG_BYTES, STATE_WORDS};
+use std::fmt;
 use std::ops::{Deref, DerefMut};
 
 /// A buffer of its own, or one that is lent to it.
@@ -48,6 +49,40 @@ pub enum Verdict<'r> {
     Refused(Refusal),
 }
 
+/// An image that did not open, handed back as it was given, and the reason. `?` turns it into the reason alone
+/// where that is what a function answers.
+#[derive(Clone, PartialEq, Eq)]
+pub struct Unopened {
+    /// Why it did not open.
+    pub why: Refusal,
+    /// The image.
+    pub image: Vec<u8>,
+}
+
+impl From<Unopened> for Refusal {
+    fn from(unopened: Unopened) -> Refusal {
+        unopened.why
+    }
+}
+
+impl fmt::Display for Unopened {
+    fn fmt(&self, f: &mut fmt::Formatter<'_>) -> fmt::Result {
+        self.why.fmt(f)
+    }
+}
+
+/// The image by its length: `unwrap` would print thousands of bytes otherwise.
+impl fmt::Debug for Unopened {
+    fn fmt(&self, f: &mut fmt::Formatter<'_>) -> fmt::Result {
+        f.debug_struct("Unopened")
+            .field("why", &self.why)
+            .field("image", &format_args!("{} bytes", self.image.len()))
+            .finish()
+    }
+}
+
+impl std::error::Error for Unopened {}
+
 /// A table under a rule sheet, with the writes that are outstanding on it.
 ///
 /// It owns its memory ([`Region::open`]) or borrows it ([`Region::open_in`]), so nothing else touches that memory
@@ -65,41 +100,49 @@ pub struct Region<'a> {
 impl Region<'static> {
     /// Opens a table in memory of its own: judges the image and starts an empty log. Refused with
     /// [`Refusal::BadState`] (the image is longer than 4096 bytes), [`Refusal::BadSheet`] or
-    /// [`Refusal::BrokenImage`].
-    pub fn open(image: Vec<u8>, sheet: &[u8]) -> Result<Self, Refusal> {
-        Region {
-            state: Held::Own(Box::new([0; STATE_WORDS])),
-            image: Held::Own(image.into_boxed_slice()),
-            log: Held::Own(Box::new([0; LOG_BYTES])),
-            sheet: sheet.to_vec(),
-            work: Vec::new(),
+    /// [`Refusal::BrokenImage`], and then the image comes back in the error.
+    ///
+    /// ```
+    /// use skaldrift::{Refusal, Region};
+    ///
+    /// // The sheet `1C 00` never holds.
+    /// let unopened = Region::open(vec![1, 2, 3], &[0x1C, 0x00]).err().unwrap();
+    /// assert_eq!(unopened.why, Refusal::BrokenImage);
+    /// assert_eq!(unopened.image, [1, 2, 3]);
+    /// ```
+    pub fn open(image: Vec<u8>, sheet: &[u8]) -> Result<Self, Unopened> {
+        let mut state = Box::new([0; STATE_WORDS]);
+        let log = Box::new([0; LOG_BYTES]);
+        if let Err(why) = done(calls::open(&mut state[..], &image, &log[..], sheet)) {
+            return Err(Unopened { why, image });
         }
-        .opened()
+        Ok(Region {
+            work: vec![0; image.len()],
+            state: Held::Own(state),
+            image: Held::Own(image.into_boxed_slice()),
+            log: Held::Own(log),
+            sheet: sheet.to_vec(),
+        })
     }
 }
 
 impl<'a> Region<'a> {
     /// Opens a table in memory that is lent to it. What the state and the log buffer held before plays no role.
+    /// Refused as [`Region::open`] is, and then the lent memory is as it was.
     pub fn open_in(
         image: &'a mut [u8],
         log: &'a mut [u8; LOG_BYTES],
         state: &'a mut [u64; STATE_WORDS],
         sheet: &[u8],
     ) -> Result<Self, Refusal> {
-        Region {
+        done(calls::open(&mut state[..], image, &log[..], sheet))?;
+        Ok(Region {
+            work: vec![0; image.len()],
             state: Held::Lent(state),
             image: Held::Lent(image),
             log: Held::Lent(log),
             sheet: sheet.to_vec(),
-            work: Vec::new(),
-        }
-        .opened()
-    }
-
-    fn opened(mut self) -> Result<Self, Refusal> {
-        self.reopen()?;
-        self.work = vec![0; self.image.len()];
-        Ok(self)
+        })
     }
 
     /// Opens the table again, under the same sheet: an empty log, as after a cut that keeps nothing.

@@ -113,22 +113,43 @@ fn the_limits_refuse() {
         assert_eq!(table.write(0, &[]), Ok(()));
     }
     assert_eq!(table.write(0, &[1; 1025]), Err(Refusal::TooManyWrites));
-    assert_eq!(
-        Region::open(vec![0; 4097], &ALWAYS).err(),
-        Some(Refusal::BadState)
-    );
-    assert_eq!(
-        Region::open(vec![0; 16], &[]).err(),
-        Some(Refusal::BadSheet)
-    );
-    assert_eq!(
-        Region::open(vec![0; 16], &[0x1C, 0x00]).err(),
-        Some(Refusal::BrokenImage)
-    );
     let mut none = Region::open(vec![], &ALWAYS).unwrap();
     assert_eq!(none.write(0, &[]), Ok(()));
     assert_eq!(none.write(1, &[]), Err(Refusal::OutOfRange));
     assert_eq!(none.cut(|_, _| true), Ok(0));
+}
+
+/// An image that does not open comes back, and `?` hands on the reason.
+#[test]
+fn a_refused_opening_hands_the_image_back() {
+    let refused: [(Vec<u8>, &[u8], Refusal); 3] = [
+        (vec![7; 4097], &ALWAYS, Refusal::BadState),
+        (vec![7; 16], &[], Refusal::BadSheet),
+        (vec![7; 16], &[0x1C, 0x00], Refusal::BrokenImage),
+    ];
+    for (image, sheet, why) in refused {
+        let (place, before) = (image.as_ptr(), image.clone());
+        let unopened = Region::open(image, sheet).err().unwrap();
+        assert_eq!(unopened.to_string(), why.to_string());
+        assert_eq!(unopened.why, why);
+        assert_eq!(unopened.image, before);
+        assert_eq!(unopened.image.as_ptr(), place);
+        let (mut log, mut state) = ([7; LOG_BYTES], [9; STATE_WORDS]);
+        let mut image = unopened.image;
+        let lent = Region::open_in(&mut image, &mut log, &mut state, sheet).err();
+        assert_eq!(lent, Some(why));
+        assert_eq!(
+            (image, log, state),
+            (before, [7; LOG_BYTES], [9; STATE_WORDS])
+        );
+    }
+    fn longer(image: Vec<u8>) -> Result<usize, Refusal> {
+        Ok(Region::open(image, &ALWAYS)?.image().len())
+    }
+    assert_eq!(longer(vec![0; 4096]), Ok(4096));
+    assert_eq!(longer(vec![0; 4097]), Err(Refusal::BadState));
+    let told = format!("{:?}", Region::open(vec![0; 4097], &ALWAYS).err().unwrap());
+    assert_eq!(told, "Unopened { why: BadState, image: 4097 bytes }");
 }
 
 #[test]
