@@ -299,7 +299,11 @@ impl<'a> Region<'a> {
     }
 }
 
-/// A table whose every recorded write, flush and cut goes by a tape.
+/// A table whose every recorded write, flush and cut goes by a tape. The table itself can only be looked at while it
+/// does, so that none goes past it.
+///
+/// As on a [`Region`], no call is refused with [`Refusal::BadState`] or [`Refusal::BadSheet`]: the predicted image has
+/// the table's length too.
 pub struct ByTape<'r, 'a> {
     region: &'r mut Region<'a>,
     tape: &'r [u8],
@@ -308,8 +312,8 @@ pub struct ByTape<'r, 'a> {
 }
 
 impl<'a> ByTape<'_, 'a> {
-    /// The table.
-    pub fn region(&mut self) -> &mut Region<'a> {
+    /// The table, to look at.
+    pub fn region(&self) -> &Region<'a> {
         self.region
     }
 
@@ -318,13 +322,33 @@ impl<'a> ByTape<'_, 'a> {
         self.start
     }
 
-    /// The predicted image, as the last call by tape left it; before the first, the image.
+    /// The predicted image, as the last accepted write, flush or cut by tape left it; before the first, the image.
     pub fn predicted(&self) -> &[u8] {
         &self.predicted
     }
 
-    /// Records a write that nobody judges, and predicts the image with it. In a session [`Region::judge`] comes
-    /// first. Refused as [`Region::write`] is, and with [`Refusal::BadTape`] or [`Refusal::BadRows`].
+    /// [`Region::read`], which uses no tape.
+    pub fn read(&mut self, addr: usize, len: usize) -> Result<&[u8], Refusal> {
+        self.region.read(addr, len)
+    }
+
+    /// [`Region::judge`], which uses no tape. In a session it comes before each [`ByTape::write`].
+    pub fn judge(&mut self, addr: usize, data: &[u8]) -> Verdict<'_> {
+        self.region.judge(addr, data)
+    }
+
+    /// Opens the table again, and keeps the start. Refused as [`Region::reopen`] is, and with
+    /// [`Refusal::NotPredicted`] while writes are outstanding: they would be lost, an end of the epoch that no tape
+    /// foretells. That refusal is this method's own, since the library's opening knows of no tape.
+    pub fn reopen(&mut self) -> Result<(), Refusal> {
+        if self.region.outstanding() != 0 {
+            return Err(Refusal::NotPredicted);
+        }
+        self.region.reopen()
+    }
+
+    /// Records a write that nobody judges, and answers the predicted image with it. In a session [`ByTape::judge`]
+    /// comes first. Refused as [`Region::write`] is, and with [`Refusal::BadTape`] or [`Refusal::BadRows`].
     pub fn write(&mut self, addr: usize, data: &[u8]) -> Result<&[u8], Refusal> {
         done(calls::tape_write(
             &mut self.region.state[..],
@@ -340,7 +364,7 @@ impl<'a> ByTape<'_, 'a> {
     }
 
     /// A flush where the tape foretells one. Refused with [`Refusal::BadTape`], [`Refusal::BadRows`] or
-    /// [`Refusal::NotPredicted`].
+    /// [`Refusal::NotPredicted`]; a flush by tape meets nothing else but a bad state.
     pub fn flush(&mut self) -> Result<(), Refusal> {
         done(calls::tape_flush(
             &mut self.region.state[..],
@@ -352,7 +376,8 @@ impl<'a> ByTape<'_, 'a> {
         ))
     }
 
-    /// A cut where the tape foretells one: what it keeps stands on the tape. Answers how many pieces were kept.
+    /// A cut where the tape foretells one: what it keeps stands on the tape. Answers how many choice points were
+    /// kept. Refused as [`ByTape::flush`] is.
     pub fn cut(&mut self) -> Result<u64, Refusal> {
         let mut report = 0;
         done(calls::tape_cut(

@@ -70,6 +70,38 @@ fn the_tape_predicts() {
     assert_eq!(by_tape.start(), 3);
 }
 
+/// A session by tape needs nothing that goes past the tape: it judges, writes, reads, ends the epoch, and opens again
+/// once the log is empty.
+#[test]
+fn a_session_by_tape() {
+    let mut table = Region::open(vec![0; 16], &EIGHT_NINE).unwrap();
+    let tape = [0x80, 0x00, 0x00, 0x40];
+    let mut by_tape = table.by_tape(&tape, 0);
+    assert!(matches!(
+        by_tape.judge(8, &[0xAA, 0xAA]),
+        Verdict::Admitted { points: 1, .. }
+    ));
+    assert_eq!(by_tape.region().outstanding(), 0);
+    by_tape.write(8, &[0xAA, 0xAA]).unwrap();
+    assert_eq!(by_tape.read(8, 2), Ok(&[0xAA, 0xAA][..]));
+    assert_eq!(by_tape.region().image(), [0; 16]);
+    assert_eq!(by_tape.reopen(), Err(Refusal::NotPredicted));
+    assert_eq!(by_tape.region().outstanding(), 1);
+    assert_eq!(by_tape.flush(), Ok(()));
+    assert_eq!(by_tape.reopen(), Ok(()));
+    assert_eq!(by_tape.start(), 2);
+    assert_eq!(by_tape.predicted(), by_tape.region().image());
+    assert!(matches!(
+        by_tape.judge(9, &[0xBB]),
+        Verdict::Denied { choice: 1, .. }
+    ));
+    by_tape.write(9, &[0xBB]).unwrap();
+    assert_eq!(by_tape.cut(), Ok(1));
+    assert_eq!(by_tape.reopen(), Err(Refusal::BrokenImage));
+    assert_eq!(by_tape.start(), 4);
+    assert_eq!(table.image()[8..10], [0xAA, 0xBB]);
+}
+
 #[test]
 fn the_gate_judges_every_cut() {
     let mut table = Region::open(vec![0; 16], &SEVEN_EIGHT).unwrap();
