@@ -1,7 +1,7 @@
 //! The table and its log, with every length right by construction.
-use crate::{calls, chunks, done, row_bytes, Refusal, LOG_BYTES, STATE_WORDS};
+use crate::{calls, done, row_bytes, Refusal, CHUNK_SIZE, LOG_BYTES, STATE_WORDS};
 use std::fmt;
-use std::ops::{Deref, DerefMut};
+use std::ops::{Deref, DerefMut, Range};
 
 /// A buffer of its own, or one that is lent to it.
 enum Held<'a, T: ?Sized> {
@@ -265,12 +265,16 @@ impl<'a> Region<'a> {
     }
 
     /// A power cut: `keep(w, c)` says whether the bytes of outstanding write w (oldest first) in chunk c had reached
-    /// the memory. Answers how many pieces were kept. The table of rows is made here, so it has the right shape.
+    /// the memory. It is asked once for each choice point, in their order: oldest write first, and of a write the
+    /// chunks that it touches, lowest first. Answers how many were kept.
+    ///
+    /// Never refused: a cut meets only a bad state, which a table doesn't have, and bad rows, which are made here in
+    /// the right shape.
     pub fn cut(&mut self, mut keep: impl FnMut(usize, usize) -> bool) -> Result<u64, Refusal> {
-        let (chunks, width) = (chunks(self.image.len()), row_bytes(self.image.len()));
+        let width = row_bytes(self.image.len());
         let mut rows = vec![0u8; self.outstanding() * width];
-        for write in 0..self.outstanding() {
-            for chunk in 0..chunks {
+        for (write, (addr, len)) in self.records().enumerate() {
+            for chunk in touched(addr as usize, len as usize) {
                 if keep(write, chunk) {
                     rows[write * width + chunk / 8] |= 0x80 >> (chunk % 8);
                 }
@@ -296,6 +300,14 @@ impl<'a> Region<'a> {
             start,
             predicted,
         }
+    }
+}
+
+/// The chunks that a write touches: none if it is empty.
+fn touched(addr: usize, len: usize) -> Range<usize> {
+    match len {
+        0 => 0..0,
+        _ => addr / CHUNK_SIZE..(addr + len).div_ceil(CHUNK_SIZE),
     }
 }
 

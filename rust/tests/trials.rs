@@ -184,6 +184,52 @@ fn a_refused_opening_hands_the_image_back() {
     assert_eq!(told, "Unopened { why: BadState, image: 4097 bytes }");
 }
 
+/// The questions of a cut are the choice points in their order, so a choice number answers them; what it keeps is
+/// what the gate had in view.
+#[test]
+fn a_cut_asks_for_each_choice_point() {
+    let mut table = Region::open(vec![0; 20], &ALWAYS).unwrap();
+    for (addr, len) in [(0, 0), (7, 2), (8, 8), (20, 0), (15, 5), (3, 17), (19, 1)] {
+        table.write(addr, &vec![0xAA; len]).unwrap();
+    }
+    let mut asked = Vec::new();
+    let kept = table.cut(|write, chunk| {
+        asked.push((write, chunk));
+        chunk != 1
+    });
+    assert_eq!(
+        asked,
+        [
+            (1, 0),
+            (1, 1),
+            (2, 1),
+            (4, 1),
+            (4, 2),
+            (5, 0),
+            (5, 1),
+            (5, 2),
+            (6, 2)
+        ]
+    );
+    assert_eq!(kept, Ok(5));
+
+    let mut table = Region::open(vec![0; 16], &SEVEN_EIGHT).unwrap();
+    assert!(matches!(table.gate(3, &[0xAA]), Verdict::Admitted { .. }));
+    let (choice, bad) = match table.judge(7, &[0xBB, 0xBB]) {
+        Verdict::Denied { choice, image } => (choice, image.to_vec()),
+        other => panic!("{other:?}"),
+    };
+    table.write(7, &[0xBB, 0xBB]).unwrap();
+    let mut point = 0;
+    let kept = table.cut(|_, _| {
+        point += 1;
+        choice >> (point - 1) & 1 == 1
+    });
+    assert_eq!(point, 3);
+    assert_eq!(kept, Ok(u64::from(choice.count_ones())));
+    assert_eq!(table.image(), bad);
+}
+
 #[test]
 fn lent_memory_serves_as_well() {
     let (mut image, mut log, mut state) = ([0u8; 16], [7u8; LOG_BYTES], [9u64; STATE_WORDS]);
