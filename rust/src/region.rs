@@ -89,6 +89,10 @@ impl std::error::Error for Unopened {}
 /// while it lives; it keeps the sheet and the length, and hands every call the state as the calls before left it.
 /// Those are the terms on which every image that a cut could leave is proved to obey the sheet, for writes that
 /// [`Region::gate`] has admitted.
+///
+/// Once a table is open, no call on it is refused with [`Refusal::BadState`] or [`Refusal::BadSheet`]: the image
+/// keeps its length, the state is what the calls left, and the sheet is the one that opened it. Each method names the
+/// refusals that are left to it.
 pub struct Region<'a> {
     state: Held<'a, [u64; STATE_WORDS]>,
     image: Held<'a, [u8]>,
@@ -145,7 +149,9 @@ impl<'a> Region<'a> {
         })
     }
 
-    /// Opens the table again, under the same sheet: an empty log, as after a cut that keeps nothing.
+    /// Opens the table again, under the same sheet: an empty log, as after a cut that keeps nothing. Refused with
+    /// [`Refusal::BrokenImage`], and that only if a write that the gate didn't admit ([`Region::write`],
+    /// [`ByTape::write`]) has reached the image: what it has admitted is proved to open again.
     pub fn reopen(&mut self) -> Result<(), Refusal> {
         done(calls::open(
             &mut self.state[..],
@@ -181,7 +187,8 @@ impl<'a> Region<'a> {
             .map(|r| (r[0], r[1]))
     }
 
-    /// What is read at `addr`: the image with all outstanding writes applied. Refused with [`Refusal::OutOfRange`].
+    /// What is read at `addr`: the image with all outstanding writes applied. Refused with [`Refusal::OutOfRange`];
+    /// reading meets nothing else but a bad state.
     pub fn read(&mut self, addr: usize, len: usize) -> Result<&[u8], Refusal> {
         done(calls::read(
             &self.state[..],
@@ -195,7 +202,7 @@ impl<'a> Region<'a> {
     }
 
     /// Records a write that nobody judges. Refused with [`Refusal::OutOfRange`], [`Refusal::TooManyWrites`] or
-    /// [`Refusal::TooManyBytes`].
+    /// [`Refusal::TooManyBytes`]; a plain write meets nothing else but a bad state.
     pub fn write(&mut self, addr: usize, data: &[u8]) -> Result<(), Refusal> {
         done(calls::write(
             &mut self.state[..],
@@ -206,7 +213,7 @@ impl<'a> Region<'a> {
         ))
     }
 
-    /// What [`Region::gate`] would say. Records nothing.
+    /// What [`Region::gate`] would say, its refusals too. Records nothing.
     pub fn judge(&mut self, addr: usize, data: &[u8]) -> Verdict<'_> {
         let mut report = 0;
         let number = calls::judge(
@@ -222,7 +229,9 @@ impl<'a> Region<'a> {
         self.verdict(number, report)
     }
 
-    /// Judges a write by every image that a cut could then leave, and records it if it is admitted.
+    /// Judges a write by every image that a cut could then leave, and records it if it is admitted. Refused with
+    /// [`Refusal::OutOfRange`], [`Refusal::TooManyWrites`], [`Refusal::TooManyBytes`] or [`Refusal::TooManyPoints`];
+    /// the gate meets nothing else but a bad state or sheet.
     pub fn gate(&mut self, addr: usize, data: &[u8]) -> Verdict<'_> {
         let mut report = 0;
         let number = calls::gate(
@@ -255,7 +264,8 @@ impl<'a> Region<'a> {
         }
     }
 
-    /// Makes the read image the image, and empties the log.
+    /// Makes the read image the image, and empties the log. Never refused: a flush meets only a bad state, which a
+    /// table doesn't have.
     pub fn flush(&mut self) -> Result<(), Refusal> {
         done(calls::flush(
             &mut self.state[..],
@@ -292,6 +302,7 @@ impl<'a> Region<'a> {
     }
 
     /// The same table by a tape of cut choices fixed beforehand, whose epoch starts at byte `start` (0 at first).
+    /// Writes that are outstanding already are the epoch's first, and have its first rows.
     pub fn by_tape<'r>(&'r mut self, tape: &'r [u8], start: u64) -> ByTape<'r, 'a> {
         let predicted = self.image.to_vec();
         ByTape {

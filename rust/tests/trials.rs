@@ -184,6 +184,22 @@ fn a_refused_opening_hands_the_image_back() {
     assert_eq!(told, "Unopened { why: BadState, image: 4097 bytes }");
 }
 
+/// Only a write that the gate did not admit can keep a table from opening again.
+#[test]
+fn a_table_opens_again_unless_broken() {
+    let mut table = Region::open(vec![0; 16], &SEVEN_EIGHT).unwrap();
+    table.write(7, &[0xAA]).unwrap();
+    assert_eq!(table.reopen(), Ok(()));
+    assert_eq!(table.outstanding(), 0);
+    table.write(7, &[0xAA]).unwrap();
+    table.flush().unwrap();
+    table.write(7, &[0]).unwrap();
+    assert_eq!(table.reopen(), Err(Refusal::BrokenImage));
+    assert_eq!(table.outstanding(), 1);
+    table.flush().unwrap();
+    assert_eq!(table.reopen(), Ok(()));
+}
+
 /// The questions of a cut are the choice points in their order, so a choice number answers them; what it keeps is
 /// what the gate had in view.
 #[test]
