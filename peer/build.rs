@@ -8,10 +8,21 @@ fn main() {
     if env::var_os("CARGO_FEATURE_LINKED").is_none() {
         return;
     }
-    let here = PathBuf::from(env::var_os("CARGO_MANIFEST_DIR").expect("cargo sets this"));
-    let folder = match env::var_os("SKALDRIFT_LIB") {
-        Some(named) => here.join(named),
-        None => here.join("../target/staticlib"),
+    let named = env::var_os("SKALDRIFT_LIB").filter(|named| !named.is_empty());
+    let folder = match named.map(PathBuf::from) {
+        // A build script runs in its package's folder and not in the caller's.
+        Some(named) if !named.is_absolute() => {
+            println!(
+                "cargo::error=SKALDRIFT_LIB is {}: name the archive's folder by its absolute path",
+                named.display()
+            );
+            return;
+        }
+        Some(named) => named,
+        None => {
+            let here = env::var_os("CARGO_MANIFEST_DIR").expect("cargo sets this");
+            PathBuf::from(here).join("../target/staticlib")
+        }
     };
     let library = folder.join("libskaldrift.a");
     println!("cargo::rerun-if-changed={}", library.display());

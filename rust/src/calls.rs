@@ -2,13 +2,18 @@
 //! contents and any lengths: a Rust slice is there as long as it is lent, a `&mut` slice overlaps no other,
 //! and that is all that the proved functions ask. [`crate::Region`] is the same with the lengths right by
 //! construction.
+//!
+//! What a call answers, reports and leaves behind is said in `include/skaldrift.h`, at the function that each
+//! names.
 use crate::sys;
 
+/// The words of a state, 65: `skaldrift_state_words` of `include/skaldrift.h`.
 pub fn state_words() -> u64 {
     // SAFETY: no memory is lent.
     unsafe { sys::skaldrift_state_words() }
 }
 
+/// Judges the image and starts an empty log: `skaldrift_open` of `include/skaldrift.h`.
 pub fn open(state: &mut [u64], image: &[u8], log: &[u8], sheet: &[u8]) -> u64 {
     // SAFETY: the slices are there, and `state`, which alone is changed, overlaps none of them.
     unsafe {
@@ -25,6 +30,7 @@ pub fn open(state: &mut [u64], image: &[u8], log: &[u8], sheet: &[u8]) -> u64 {
     }
 }
 
+/// Records a write that nobody judges: `skaldrift_write` of `include/skaldrift.h`.
 pub fn write(state: &mut [u64], image: &[u8], log: &mut [u8], addr: u64, data: &[u8]) -> u64 {
     // SAFETY: the slices are there, and a `&mut` slice overlaps no other.
     unsafe {
@@ -42,6 +48,7 @@ pub fn write(state: &mut [u64], image: &[u8], log: &mut [u8], addr: u64, data: &
     }
 }
 
+/// Fills `work` with the read image: `skaldrift_read` of `include/skaldrift.h`.
 pub fn read(state: &[u64], image: &[u8], log: &[u8], work: &mut [u8], addr: u64, len: u64) -> u64 {
     // SAFETY: the slices are there, and a `&mut` slice overlaps no other.
     unsafe {
@@ -60,6 +67,7 @@ pub fn read(state: &[u64], image: &[u8], log: &[u8], work: &mut [u8], addr: u64,
     }
 }
 
+/// Makes the read image the image: `skaldrift_flush` of `include/skaldrift.h`.
 pub fn flush(state: &mut [u64], image: &mut [u8], log: &[u8]) -> u64 {
     // SAFETY: the slices are there, and a `&mut` slice overlaps no other.
     unsafe {
@@ -74,6 +82,7 @@ pub fn flush(state: &mut [u64], image: &mut [u8], log: &[u8]) -> u64 {
     }
 }
 
+/// A power cut that keeps what the rows say: `skaldrift_cut` of `include/skaldrift.h`.
 pub fn cut(state: &mut [u64], image: &mut [u8], log: &[u8], rows: &[u8], report: &mut u64) -> u64 {
     // SAFETY: the slices are there, and a `&mut` overlaps no other.
     unsafe {
@@ -91,6 +100,7 @@ pub fn cut(state: &mut [u64], image: &mut [u8], log: &[u8], rows: &[u8], report:
     }
 }
 
+/// Judges a write and records nothing: `skaldrift_judge` of `include/skaldrift.h`.
 #[allow(clippy::too_many_arguments)]
 pub fn judge(
     state: &[u64],
@@ -123,6 +133,7 @@ pub fn judge(
     }
 }
 
+/// Judges a write and records it if it is admitted: `skaldrift_gate` of `include/skaldrift.h`.
 #[allow(clippy::too_many_arguments)]
 pub fn gate(
     state: &mut [u64],
@@ -155,6 +166,7 @@ pub fn gate(
     }
 }
 
+/// Records a write and predicts the image: `skaldrift_tape_write` of `include/skaldrift.h`.
 #[allow(clippy::too_many_arguments)]
 pub fn tape_write(
     state: &mut [u64],
@@ -187,6 +199,7 @@ pub fn tape_write(
     }
 }
 
+/// A flush where the tape foretells one: `skaldrift_tape_flush` of `include/skaldrift.h`.
 pub fn tape_flush(
     state: &mut [u64],
     image: &mut [u8],
@@ -213,6 +226,7 @@ pub fn tape_flush(
     }
 }
 
+/// A cut where the tape foretells one: `skaldrift_tape_cut` of `include/skaldrift.h`.
 pub fn tape_cut(
     state: &mut [u64],
     image: &mut [u8],
@@ -241,11 +255,13 @@ pub fn tape_cut(
     }
 }
 
+/// The example application's setup: `skaldrift_setup` of `include/skaldrift.h`.
 pub fn setup(image: &mut [u8], addr: u64, val0: u8) -> u64 {
     // SAFETY: the slice is there.
     unsafe { sys::skaldrift_setup(image.as_mut_ptr(), image.len(), addr, val0) }
 }
 
+/// The example application: `skaldrift_run` of `include/skaldrift.h`.
 pub fn run(
     image: &mut [u8],
     log: &mut [u8],

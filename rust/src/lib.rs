@@ -5,6 +5,9 @@
 //! every image that a power cut could then leave obeys the table's rule sheet. The lengths are right by
 //! construction, so of the library's refusals only those are left that a caller can do something about.
 //!
+//! A method of [`Region`] or [`ByTape`] panics if its call answers a number that no call of this library gives: then
+//! the archive that was linked is another one.
+//!
 //! ```
 //! use skaldrift::{Refusal, Region, Verdict};
 //!
@@ -39,13 +42,12 @@
 #![deny(unsafe_op_in_unsafe_fn)]
 #![warn(missing_docs)]
 
-#[allow(missing_docs)]
 pub mod calls;
 mod region;
 #[allow(missing_docs)]
 pub mod sys;
 
-pub use region::{ByTape, Region, Verdict};
+pub use region::{ByTape, Region, Unopened, Verdict};
 
 /// The words of a state: the count of outstanding writes, then address and length of each of 32 records.
 pub const STATE_WORDS: usize = 65;
@@ -156,11 +158,16 @@ impl std::fmt::Display for Refusal {
 impl std::error::Error for Refusal {}
 
 /// Done, or the refusal of a number.
+///
+/// # Panics
+///
+/// If no call of this library gives the number, or if it is 8 where nothing is judged. The proved archive answers
+/// neither, so another one is linked, and nothing that it has done can be trusted.
 fn done(number: u64) -> Result<(), Refusal> {
     match number {
         0 => Ok(()),
-        other => {
-            Err(Refusal::of(other).expect("the number is one that the call is proved to give"))
-        }
+        other => Err(Refusal::of(other).unwrap_or_else(|| {
+            panic!("a call answered {other}: the linked archive is not this library's")
+        })),
     }
 }

@@ -70,6 +70,38 @@ fn the_tape_predicts() {
     assert_eq!(by_tape.start(), 3);
 }
 
+/// A session by tape needs nothing that goes past the tape: it judges, writes, reads, ends the epoch, and opens again
+/// once the log is empty.
+#[test]
+fn a_session_by_tape() {
+    let mut table = Region::open(vec![0; 16], &EIGHT_NINE).unwrap();
+    let tape = [0x80, 0x00, 0x00, 0x40];
+    let mut by_tape = table.by_tape(&tape, 0);
+    assert!(matches!(
+        by_tape.judge(8, &[0xAA, 0xAA]),
+        Verdict::Admitted { points: 1, .. }
+    ));
+    assert_eq!(by_tape.region().outstanding(), 0);
+    by_tape.write(8, &[0xAA, 0xAA]).unwrap();
+    assert_eq!(by_tape.read(8, 2), Ok(&[0xAA, 0xAA][..]));
+    assert_eq!(by_tape.region().image(), [0; 16]);
+    assert_eq!(by_tape.reopen(), Err(Refusal::NotPredicted));
+    assert_eq!(by_tape.region().outstanding(), 1);
+    assert_eq!(by_tape.flush(), Ok(()));
+    assert_eq!(by_tape.reopen(), Ok(()));
+    assert_eq!(by_tape.start(), 2);
+    assert_eq!(by_tape.predicted(), by_tape.region().image());
+    assert!(matches!(
+        by_tape.judge(9, &[0xBB]),
+        Verdict::Denied { choice: 1, .. }
+    ));
+    by_tape.write(9, &[0xBB]).unwrap();
+    assert_eq!(by_tape.cut(), Ok(1));
+    assert_eq!(by_tape.reopen(), Err(Refusal::BrokenImage));
+    assert_eq!(by_tape.start(), 4);
+    assert_eq!(table.image()[8..10], [0xAA, 0xBB]);
+}
+
 #[test]
 fn the_gate_judges_every_cut() {
     let mut table = Region::open(vec![0; 16], &SEVEN_EIGHT).unwrap();
@@ -113,22 +145,105 @@ fn the_limits_refuse() {
         assert_eq!(table.write(0, &[]), Ok(()));
     }
     assert_eq!(table.write(0, &[1; 1025]), Err(Refusal::TooManyWrites));
-    assert_eq!(
-        Region::open(vec![0; 4097], &ALWAYS).err(),
-        Some(Refusal::BadState)
-    );
-    assert_eq!(
-        Region::open(vec![0; 16], &[]).err(),
-        Some(Refusal::BadSheet)
-    );
-    assert_eq!(
-        Region::open(vec![0; 16], &[0x1C, 0x00]).err(),
-        Some(Refusal::BrokenImage)
-    );
     let mut none = Region::open(vec![], &ALWAYS).unwrap();
     assert_eq!(none.write(0, &[]), Ok(()));
     assert_eq!(none.write(1, &[]), Err(Refusal::OutOfRange));
     assert_eq!(none.cut(|_, _| true), Ok(0));
+}
+
+/// An image that does not open comes back, and `?` hands on the reason.
+#[test]
+fn a_refused_opening_hands_the_image_back() {
+    let refused: [(Vec<u8>, &[u8], Refusal); 3] = [
+        (vec![7; 4097], &ALWAYS, Refusal::BadState),
+        (vec![7; 16], &[], Refusal::BadSheet),
+        (vec![7; 16], &[0x1C, 0x00], Refusal::BrokenImage),
+    ];
+    for (image, sheet, why) in refused {
+        let (place, before) = (image.as_ptr(), image.clone());
+        let unopened = Region::open(image, sheet).err().unwrap();
+        assert_eq!(unopened.to_string(), why.to_string());
+        assert_eq!(unopened.why, why);
+        assert_eq!(unopened.image, before);
+        assert_eq!(unopened.image.as_ptr(), place);
+        let (mut log, mut state) = ([7; LOG_BYTES], [9; STATE_WORDS]);
+        let mut image = unopened.image;
+        let lent = Region::open_in(&mut image, &mut log, &mut state, sheet).err();
+        assert_eq!(lent, Some(why));
+        assert_eq!(
+            (image, log, state),
+            (before, [7; LOG_BYTES], [9; STATE_WORDS])
+        );
+    }
+    fn longer(image: Vec<u8>) -> Result<usize, Refusal> {
+        Ok(Region::open(image, &ALWAYS)?.image().len())
+    }
+    assert_eq!(longer(vec![0; 4096]), Ok(4096));
+    assert_eq!(longer(vec![0; 4097]), Err(Refusal::BadState));
+    let told = format!("{:?}", Region::open(vec![0; 4097], &ALWAYS).err().unwrap());
+    assert_eq!(told, "Unopened { why: BadState, image: 4097 bytes }");
+}
+
+/// Only a write that the gate did not admit can keep a table from opening again.
+#[test]
+fn a_table_opens_again_unless_broken() {
+    let mut table = Region::open(vec![0; 16], &SEVEN_EIGHT).unwrap();
+    table.write(7, &[0xAA]).unwrap();
+    assert_eq!(table.reopen(), Ok(()));
+    assert_eq!(table.outstanding(), 0);
+    table.write(7, &[0xAA]).unwrap();
+    table.flush().unwrap();
+    table.write(7, &[0]).unwrap();
+    assert_eq!(table.reopen(), Err(Refusal::BrokenImage));
+    assert_eq!(table.outstanding(), 1);
+    table.flush().unwrap();
+    assert_eq!(table.reopen(), Ok(()));
+}
+
+/// The questions of a cut are the choice points in their order, so a choice number answers them; what it keeps is
+/// what the gate had in view.
+#[test]
+fn a_cut_asks_for_each_choice_point() {
+    let mut table = Region::open(vec![0; 20], &ALWAYS).unwrap();
+    for (addr, len) in [(0, 0), (7, 2), (8, 8), (20, 0), (15, 5), (3, 17), (19, 1)] {
+        table.write(addr, &vec![0xAA; len]).unwrap();
+    }
+    let mut asked = Vec::new();
+    let kept = table.cut(|write, chunk| {
+        asked.push((write, chunk));
+        chunk != 1
+    });
+    assert_eq!(
+        asked,
+        [
+            (1, 0),
+            (1, 1),
+            (2, 1),
+            (4, 1),
+            (4, 2),
+            (5, 0),
+            (5, 1),
+            (5, 2),
+            (6, 2)
+        ]
+    );
+    assert_eq!(kept, Ok(5));
+
+    let mut table = Region::open(vec![0; 16], &SEVEN_EIGHT).unwrap();
+    assert!(matches!(table.gate(3, &[0xAA]), Verdict::Admitted { .. }));
+    let (choice, bad) = match table.judge(7, &[0xBB, 0xBB]) {
+        Verdict::Denied { choice, image } => (choice, image.to_vec()),
+        other => panic!("{other:?}"),
+    };
+    table.write(7, &[0xBB, 0xBB]).unwrap();
+    let mut point = 0;
+    let kept = table.cut(|_, _| {
+        point += 1;
+        choice >> (point - 1) & 1 == 1
+    });
+    assert_eq!(point, 3);
+    assert_eq!(kept, Ok(u64::from(choice.count_ones())));
+    assert_eq!(table.image(), bad);
 }
 
 #[test]
