@@ -16,7 +16,7 @@ use Rattle.gate.specs.declared.Verdict.the-variants.{Admitted, Denied, Refused}
 use Rattle.gate.proofs.Gives.{opens-means}
 use Rattle.gate.proofs.Meaning.{judge-means}
 use Rattle.words.specs.Words.{state-words, state-of, reported}
-use Rattle.skaldrift.specs.Gate.{SkaldriftOpen, SkaldriftJudge, SkaldriftGate}
+use Rattle.linked.specs.Gate.{SkaldriftOpen, SkaldriftJudge, SkaldriftGate}
 use Rattle.linked.specs.Meaning.{MeansByNumber}
 use Rattle.linked.proofs.Promises.{linked-open, linked-judge}
 use Rattle.linked.proofs.Runs.{done-of, admitted-of}

@@ -25,9 +25,9 @@ use Rattle.gate.specs.Judgement.{verdict-report, judge-report, judge-number, ju
 use Rattle.gate.specs.declared.Verdict.{Verdict}
 use Rattle.words.specs.Words.{state-words, state-of, words-of, of-state, reported}
 use Rattle.words.proofs.WordLaws.{state-back, said-length, words-length}
-use Rattle.skaldrift.specs.Log.{skaldrift-write-number, SkaldriftWrite, SkaldriftRead, skaldrift-flush-number, SkaldriftFlush, skaldrift-cut-number, SkaldriftCut}
-use Rattle.skaldrift.specs.Gate.{skaldrift-open-number, SkaldriftOpen, skaldrift-judge-number, SkaldriftJudge, SkaldriftGate}
-use Rattle.skaldrift.proofs.CallLaws.{right, report-by}
+use Rattle.linked.specs.Log.{skaldrift-write-number, SkaldriftWrite, SkaldriftRead, skaldrift-flush-number, SkaldriftFlush, skaldrift-cut-number, SkaldriftCut}
+use Rattle.linked.specs.Gate.{skaldrift-open-number, SkaldriftOpen, skaldrift-judge-number, SkaldriftJudge, SkaldriftGate}
+use Rattle.linked.proofs.CallLaws.{right, report-by}
 use Rattle.linked.proofs.Numbers.{open-answers, write-answers, read-answers, flush-answers, cut-answers, cut-answered, judge-speaks}
 
 -- a function that is done was handed 65 words

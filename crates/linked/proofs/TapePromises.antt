@@ -16,8 +16,8 @@ use Rattle.tape.specs.Ending.{next-start, predicted-now}
 use Rattle.tape.specs.Flush.{tape-flush-number, TapeFlushes}
 use Rattle.tape.specs.Cut.{tape-cut-number, tape-kept, TapeCuts}
 use Rattle.words.specs.Words.{state-words, state-of, reported}
-use Rattle.skaldrift.specs.Tape.{skaldrift-tape-write-number, SkaldriftTapeWrite, skaldrift-tape-flush-number, SkaldriftTapeFlush, skaldrift-tape-cut-number, SkaldriftTapeCut}
-use Rattle.skaldrift.proofs.CallLaws.{report-by}
+use Rattle.linked.specs.Tape.{skaldrift-tape-write-number, SkaldriftTapeWrite, skaldrift-tape-flush-number, SkaldriftTapeFlush, skaldrift-tape-cut-number, SkaldriftTapeCut}
+use Rattle.linked.proofs.CallLaws.{report-by}
 use Rattle.linked.proofs.Numbers.{tape-write-answers, ending-answers, cut-answered}
 use Rattle.linked.proofs.Promises.{sized-recorded, sized-emptied, number-here, by-call, state-by-call}
 

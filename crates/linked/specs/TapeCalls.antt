@@ -4,8 +4,8 @@ use mathlib.Core.Path.{_≡_}
 use mathlib.Core.List.{List}
 use lib.ListN.{getD}
 use Rattle.session.specs.History.{Event, nothing, written, flushed, cut-by, reopened, History, opening, _then_}
-use Rattle.skaldrift.specs.Gate.{SkaldriftOpen, SkaldriftJudge}
-use Rattle.skaldrift.specs.Tape.{SkaldriftTapeWrite, SkaldriftTapeFlush, SkaldriftTapeCut}
+use Rattle.linked.specs.Gate.{SkaldriftOpen, SkaldriftJudge}
+use Rattle.linked.specs.Tape.{SkaldriftTapeWrite, SkaldriftTapeFlush, SkaldriftTapeCut}
 use Rattle.linked.specs.Calls.{Lent, lent, if-0, Call}
 
 module _ (sheet tape : List ℕ) where

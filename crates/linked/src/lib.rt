@@ -1,2 +1,2 @@
-// No code: from the promises of the functions that a desk links back to those of the library, and so
-// from a run of skaldrift_* calls to the session theorem.
+// No code: what the functions that a desk links promise, and that a run of them is a run of the
+// library's calls, so that its theorems hold of them. `skaldrift` has the functions.

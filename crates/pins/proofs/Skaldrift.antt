@@ -2,10 +2,10 @@
 use Prim.Native.Nat.{ℕ}
 use mathlib.Core.Path.{_≡_}
 use mathlib.Core.List.{List}
-use Rattle.skaldrift.specs.Log.{SkaldriftWrite, SkaldriftRead, SkaldriftFlush, SkaldriftCut}
-use Rattle.skaldrift.specs.Gate.{SkaldriftOpen, SkaldriftJudge, SkaldriftGate}
-use Rattle.skaldrift.specs.Tape.{SkaldriftTapeWrite, SkaldriftTapeFlush, SkaldriftTapeCut}
-use Rattle.skaldrift.specs.Example.{SkaldriftSetup, SkaldriftRun}
+use Rattle.linked.specs.Log.{SkaldriftWrite, SkaldriftRead, SkaldriftFlush, SkaldriftCut}
+use Rattle.linked.specs.Gate.{SkaldriftOpen, SkaldriftJudge, SkaldriftGate}
+use Rattle.linked.specs.Tape.{SkaldriftTapeWrite, SkaldriftTapeFlush, SkaldriftTapeCut}
+use Rattle.linked.specs.Example.{SkaldriftSetup, SkaldriftRun}
 use Rattle.pins.proofs.Scheme.{same}
 
 module _ (words image log : List ℕ) where

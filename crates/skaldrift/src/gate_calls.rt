@@ -9,7 +9,7 @@ use words::reports::verdict_number;
 use words::state_words::STATE_WORDS;
 use words::state_words::loaded;
 use words::state_words::stored;
-ghost use Rattle.skaldrift.specs.Gate.{SkaldriftOpen, SkaldriftJudge, SkaldriftGate};
+ghost use Rattle.linked.specs.Gate.{SkaldriftOpen, SkaldriftJudge, SkaldriftGate};
 
 // Judges the image and starts an empty log. Of the state only its length is looked at.
 #[no_mangle]

@@ -12,7 +12,7 @@ use writelog::read::read_fill;
 use writelog::write::write;
 ghost use mathlib.Core.Path.{_≡_};
 ghost use Rattle.words.specs.Words.{state-words};
-ghost use Rattle.skaldrift.specs.Log.{SkaldriftWrite, SkaldriftRead, SkaldriftFlush, SkaldriftCut};
+ghost use Rattle.linked.specs.Log.{SkaldriftWrite, SkaldriftRead, SkaldriftFlush, SkaldriftCut};
 
 // The words of a state: the length that every other function asks of `state`.
 #[no_mangle]

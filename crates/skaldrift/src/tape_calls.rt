@@ -9,7 +9,7 @@ use words::reports::cut_number;
 use words::state_words::STATE_WORDS;
 use words::state_words::loaded;
 use words::state_words::stored;
-ghost use Rattle.skaldrift.specs.Tape.{SkaldriftTapeWrite, SkaldriftTapeFlush, SkaldriftTapeCut};
+ghost use Rattle.linked.specs.Tape.{SkaldriftTapeWrite, SkaldriftTapeFlush, SkaldriftTapeCut};
 
 // Records a write of `data` at `addr`, judged by nobody, and predicts the image with it.
 #[no_mangle]

@@ -1,6 +1,6 @@
 -- `skaldrift_gate` meets its contract: words of another number are refused before anything is touched, and the others are a state, at which the gate keeps its promise.
 -- Assumes nothing.
-use Rattle.skaldrift.proofs.GateLaws.{gate-wrong, gate-right}
+use Rattle.linked.proofs.GateLaws.{gate-wrong, gate-right}
 use borrow.Author.Needs.{needs}
 use Rattle.skaldrift.proofs.gate_calls.skaldrift_gate.Statement.{statement}
 use Rattle.skaldrift.proofs.gate_calls.skaldrift_gate.Tie as tie

@@ -15,8 +15,8 @@ use Rattle.tape.specs.Ending.{next-start, predicted-now}
 use Rattle.tape.specs.Flush.{tape-flush-number, TapeFlushes}
 use Rattle.tape.specs.Cut.{tape-cut-number, tape-kept, TapeCuts}
 use Rattle.words.specs.Words.{state-words, state-of, words-of, reported}
-use Rattle.skaldrift.specs.Tape.{SkaldriftTapeWrite, SkaldriftTapeFlush, SkaldriftTapeCut}
-use Rattle.skaldrift.proofs.CallLaws.{right, wrong, right-by, right-words, wrong-by, report-by}
+use Rattle.linked.specs.Tape.{SkaldriftTapeWrite, SkaldriftTapeFlush, SkaldriftTapeCut}
+use Rattle.linked.proofs.CallLaws.{right, wrong, right-by, right-words, wrong-by, report-by}
 
 module _ (words image log tape : List ℕ) (start : ℕ) (predicted : List ℕ) (addr : ℕ) (bytes : List ℕ) where
   abbrev write-at : State → ℕ

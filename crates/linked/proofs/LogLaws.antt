@@ -15,8 +15,8 @@ use Rattle.writelog.specs.Cut.{cut-report, cut-number, cut-image, cut-kept, Cut
 use Rattle.records.specs.declared.state.State.{State}
 use Rattle.writelog.specs.declared.cut.CutAnswer.{CutAnswer}
 use Rattle.words.specs.Words.{state-words, state-of, words-of, reported}
-use Rattle.skaldrift.specs.Log.{SkaldriftWrite, SkaldriftRead, SkaldriftFlush, SkaldriftCut}
-use Rattle.skaldrift.proofs.CallLaws.{right, wrong, right-by, right-words, wrong-by, report-by}
+use Rattle.linked.specs.Log.{SkaldriftWrite, SkaldriftRead, SkaldriftFlush, SkaldriftCut}
+use Rattle.linked.proofs.CallLaws.{right, wrong, right-by, right-words, wrong-by, report-by}
 
 module _ (words image log : List ℕ) (addr : ℕ) (bytes : List ℕ) where
   abbrev write-at : State → ℕ

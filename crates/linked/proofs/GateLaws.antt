@@ -12,8 +12,8 @@ use Rattle.gate.specs.Opening.{fresh, open-number, Opens}
 use Rattle.gate.specs.Judgement.{verdict-report, judge-report, judge-number, judge-work, Judges, Gates}
 use Rattle.gate.specs.declared.Verdict.{Verdict}
 use Rattle.words.specs.Words.{state-words, state-of, words-of, record-words, of-state, reported}
-use Rattle.skaldrift.specs.Gate.{skaldrift-judge-number, SkaldriftOpen, SkaldriftJudge, SkaldriftGate}
-use Rattle.skaldrift.proofs.CallLaws.{right, wrong, right-by, right-words, wrong-by}
+use Rattle.linked.specs.Gate.{skaldrift-judge-number, SkaldriftOpen, SkaldriftJudge, SkaldriftGate}
+use Rattle.linked.proofs.CallLaws.{right, wrong, right-by, right-words, wrong-by}
 
 -- a good opening leaves 65 words of 0
 pub fresh-words : words-of fresh ≡ replicate state-words 0
