@@ -5,6 +5,7 @@ use region::numbers::refusal_number;
 use words::reports::cut_number;
 use words::state_words::STATE_WORDS;
 use words::state_words::loaded;
+use words::state_words::state_words;
 use words::state_words::stored;
 use writelog::cut::cut;
 use writelog::flush::flush;
@@ -19,7 +20,7 @@ ghost use Rattle.linked.specs.Log.{SkaldriftWrite, SkaldriftRead, SkaldriftFlus
 pub extern "C" fn skaldrift_state_words() -> u64
     ensures { λ r. ⌜ r ≡ state-words ⌝ }
 {
-    STATE_WORDS as u64
+    state_words() as u64
 }
 
 // Records a write of `data` at `addr`, judged by nobody.

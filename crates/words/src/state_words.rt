@@ -12,6 +12,13 @@ const RECORD_WORDS: usize = 2;
 
 pub const STATE_WORDS: usize = 1 + RECORD_WORDS * WRITES_LIMIT;
 
+// What a program that links the library can ask.
+pub fn state_words() -> usize
+    ensures { λ r. ⌜ r ≡ state-words ⌝ }
+{
+    STATE_WORDS
+}
+
 // The state that the words say.
 pub fn loaded(words: &[u64]) -> State
     requires { ⌜ length (now words) ≡ state-words ⌝ }
