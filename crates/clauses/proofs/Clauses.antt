@@ -2,7 +2,7 @@
 use Prim.Native.Nat.{ℕ, zero, suc, _+_, _≤_, _<_}
 use native.Mathlib.Nat.{le-of-suc-le-suc, not-suc-le-zero, min-le-left}
 use native.Mathlib.Omega.{arith}
-use mathlib.Core.Path.{_≡_, sym, ap, ap₂, subst, subst⁻¹, _∙_}
+use mathlib.Core.Path.{_≡_, refl, sym, ap, ap₂, subst, subst⁻¹, _∙_}
 use mathlib.Core.Bool.{Bool, true}
 use mathlib.Core.List.{List, [], _∷_}
 use lib.Dec.{leb}
@@ -35,6 +35,10 @@ use Rattle.writelog.specs.declared.cut.CutAnswer.the-variants.{Kept}
 use Rattle.records.proofs.Soundness.{sound-facts}
 use Rattle.writelog.proofs.WriteLaws.{passed, room-done}
 use Rattle.records.proofs.Views.{writes-counted, view-of-recorded, view-of-emptied}
+use Rattle.gate.specs.Opening.{fresh, Opens}
+use Rattle.gate.proofs.Gives.{opened-fresh}
+use Rattle.tape.specs.Foretold.{foretold}
+use Rattle.tape.proofs.Foretells.{foretold-of-nothing}
 
 -- `serialize_and_write` of pmem_async_spec_t.rs, without the object: what a write inside the region put there is read back
 pub written-is-read : (v : AsyncView) (addr : ℕ) (bytes : List ℕ) → addr + length bytes ≤ len v → extract-bytes (readable (write v addr bytes)) addr (length bytes) ≡ bytes
@@ -97,3 +101,11 @@ done-flush-flushes image st log p =
 -- the comment on `flush` in power_v.rs: what a cut could leave after a flush, it could have left before
 pub flush-narrows : (C : ℕ) → 0 < C → (v : AsyncView) (x : List ℕ) → can-crash C (flush v) x → can-crash C v x
 flush-narrows C positive v x h = subst⁻¹ (can-crash C v) (cut-after-flush C v x .0 h) (cut-could-leave-the-read-image C positive v)
+
+-- `new` of pmem_async_equiv_t.rs: after a good opening the read image and the durable image are the image, whatever the tape foretells
+pub opened-is-foretold : (C : ℕ) (tape : List ℕ) (start : ℕ) (image : List ℕ) (st : State) (log sheet : List ℕ) {st′ : State}
+    → Opens image st log sheet Done st′ → foretold C tape start (view image st′ log) ≡ record { read-state = image; durable-state = image }
+opened-is-foretold C tape start image st log sheet p =
+    ap (λ (t : State). foretold C tape start (view image t log)) (opened-fresh image st log sheet p refl)
+    ∙ ap (foretold C tape start) (view-of-emptied fresh image log)
+    ∙ foretold-of-nothing C tape start image

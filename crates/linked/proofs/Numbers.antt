@@ -10,7 +10,7 @@ use Rattle.region.specs.Answer.{Report, refusal-number, answer-number, unless, 
 use Rattle.region.specs.declared.Answer.{Answer}
 use Rattle.region.specs.declared.Answer.the-variants as answer
 use Rattle.region.specs.declared.Refusal.{Refusal}
-use Rattle.region.specs.declared.Refusal.the-variants.{BadState, OutOfRange, TooManyWrites, TooManyBytes, BadSheet, BrokenImage, TooManyPoints, BadRows, BadTape, NotPredicted}
+use Rattle.region.specs.declared.Refusal.the-variants.{BadState, OutOfRange, TooManyWrites, TooManyBytes, BadSheet, BrokenImage, TooManyPoints, BadRows, BadTape, NotPredicted, TooManyRounds}
 use Rattle.region.proofs.AnswerLaws.{not-done, refusal-not-done, refused-left}
 use Rattle.replay.specs.AsyncSpec.{size-to-chunks}
 use Rattle.replay.specs.Rows.{rows-right, rows-filled}
@@ -32,6 +32,11 @@ use Rattle.gate.specs.declared.Verdict.the-variants as verdict
 use Rattle.tape.specs.Epoch.{epoch-there, epoch-number}
 use Rattle.tape.specs.Write.{or-else, tape-sound, tape-room-number, tape-write-number}
 use Rattle.tape.specs.Ending.{as-foretold, ending-number}
+use Rattle.example.specs.Setup.{setup-number}
+use Rattle.example.specs.Valid.{valid}
+use Rattle.example.specs.Run.{rounds-limit, run-answer-number, run-number}
+use Rattle.example.specs.declared.RunAnswer.{RunAnswer}
+use Rattle.example.specs.declared.RunAnswer.the-variants as run-answer
 
 -- an answer has this number
 abbrev pub Answers : ℕ → Type 0
@@ -104,6 +109,25 @@ ending-answers flushing L st log-length tape start predicted-length =
     (or-after (epoch-number (size-to-chunks const-persistence-chunk-size L) (st .count) tape start) _
     (epoch-answers (size-to-chunks const-persistence-chunk-size L) (st .count) tape start)
     (tested (as-foretold flushing tape start) NotPredicted 0 all-done))
+
+pub setup-answers : (image : List ℕ) (addr : ℕ) → Answers (setup-number image addr)
+unfolding setup-number
+setup-answers image addr =
+    tested (leb (length image) image-limit) BadState _
+    (tested (leb (addr + 1) (length image)) OutOfRange 0 all-done)
+
+pub run-answers : (image log work : List ℕ) (addr val0 val1 rounds : ℕ) → (a : RunAnswer) × (run-answer-number a ≡ run-number image log work addr val0 val1 rounds)
+unfolding run-number
+run-answers image log work addr val0 val1 rounds =
+    of-run _
+    (tested (leb (length image) image-limit && eqb (length log) log-limit && eqb (length work) (length image)) BadState _
+    (tested (leb (addr + 1) (length image)) OutOfRange _
+    (tested (leb rounds rounds-limit) TooManyRounds _
+    (tested (valid addr val0 val1 image) BrokenImage 0 all-done))))
+  where
+    of-run : (n : ℕ) → Answers n → (a : RunAnswer) × (run-answer-number a ≡ n)
+    of-run n (answer.Done, e) = (run-answer.Done, e)
+    of-run n (answer.Refused why, e) = (run-answer.Refused why, e)
 
 -- a cut's report: its number, and the kept count where it is done
 abbrev pub cut-told : ℕ → ℕ → Report

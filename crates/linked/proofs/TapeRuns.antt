@@ -16,7 +16,7 @@ use Rattle.linked.proofs.Promises.{sized-after-open, linked-open}
 use Rattle.linked.proofs.TapePromises.{sized-after-tape-write, sized-after-tape-flush, sized-after-tape-cut, linked-tape-write, linked-tape-flush, linked-tape-cut}
 use Rattle.linked.specs.Calls.{Lent, desk-of}
 use Rattle.linked.proofs.Runs.{answer-event, cut-event, done-of, kept-of, opens, admits, call-is-a-step}
-use Rattle.linked.specs.TapeCalls.{TapeCall, judged-write, flush, cut, reopen, other, TapeCalls, opened, _and_}
+use Rattle.linked.specs.TapeCalls.{TapeCall, judged-write, flush, cut, reopen, restart, other, TapeCalls, opened, _and_}
 
 module _ (sheet tape : List ℕ) where
   renamed : {d d′ : Desk} {start start′ : ℕ} {e e′ : Event} → e ≡ e′ → TapeStep sheet tape d start e d′ start′ → TapeStep sheet tape d start e′ d′ start′
@@ -37,6 +37,7 @@ module _ (sheet tape : List ℕ) where
   tape-call-is-a-step sized (reopen {words = words} empty p) =
       let (a, same, o) = linked-open words sized p in
       (sized-after-open words sized p, renamed (answer-event a _ same) (run.reopen empty o))
+  tape-call-is-a-step sized (restart empty p) = let (again, o) = opens p in (again, run.restart empty o)
   tape-call-is-a-step sized (other c) = let (again, s) = call-is-a-step sheet sized c in (again, run.other s)
 
   module _ (image : List ℕ) where

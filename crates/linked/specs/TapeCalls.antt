@@ -26,6 +26,11 @@ module _ (sheet tape : List ℕ) where
         → getD words 0 0 ≡ 0
         → SkaldriftOpen words image log sheet number words′
         → TapeCall (lent image words log) start (if-0 number reopened) (lent image words′ log) start
+    -- a good one that is handed other words and another log buffer, as after a power loss
+    restart : {image words log words₀ log₀ words′ : List ℕ} {start : ℕ}
+        → getD words 0 0 ≡ 0
+        → SkaldriftOpen words₀ image log₀ sheet 0 words′
+        → TapeCall (lent image words log) start reopened (lent image words′ log₀) start
     -- any other call that leaves nothing behind in the history
     other : {m : Lent} {start : ℕ} {m′ : Lent} → Call sheet m nothing m′ → TapeCall m start nothing m′ start
 
