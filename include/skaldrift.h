@@ -22,8 +22,8 @@
  * The library drives no memory module: it says what may be done to one. `image` is the table as the module held it at
  * the last flush, in ordinary memory.
  *   Start      Read the module into `image` and call skaldrift_open. State and log may hold anything before.
- *   A delta    Call skaldrift_gate. On 0 store the delta to the module, what falls into one aligned chunk of 8 bytes in
- *              one store. When the module's own flush is through, call skaldrift_flush.
+ *   A delta    Call skaldrift_gate. On 0 store the delta to the module, before the next one, and what falls into one
+ *              aligned chunk of 8 bytes in one store. When the module's own flush is through, call skaldrift_flush.
  *   A reader   Call skaldrift_read, which sees the outstanding writes too.
  *   Power loss Start again. What the module holds then is one of the images that the gate has judged, so the opening
  *              is done.
@@ -31,6 +31,8 @@
  * it, nothing else touches image, state and log, and a write is recorded only when it was admitted: by skaldrift_gate,
  * or by skaldrift_write or skaldrift_tape_write right after skaldrift_judge answered 0 on that same state.
  * skaldrift_cut and the tape calls play power cuts through: for tests, and for engineers who want to see what is left.
+ * A session by tape makes every recorded write, flush and cut by the tape, judges each write first, and opens again
+ * only on an empty log.
  *
  * THE BUFFERS
  *   state      65 words: the count of outstanding writes, then address and length of each of 32 records, oldest
@@ -43,7 +45,7 @@
  *              of a row (chunk 0 in the top bit of its first byte) keeps the write's bytes in chunk c. The bits
  *              after the last chunk are 0.
  *   tape       epochs: a header byte, 0x80 (a flush will end it) or 0x00 (a cut will), then one row for each write,
- *              under 0x80 too.
+ *              under 0x80 too. Every call by tape looks at all rows of the epoch so far, a write at its own too.
  *   start      where the epoch begins on the tape: 0 at first, then what the last tape flush or cut left. An opening
  *              keeps it.
  *   predicted  an image of L bytes: what the tape says is to come.
@@ -54,7 +56,8 @@
  *   01  address (16) address (16)       the two bytes are equal
  *   10  count (6) members               all of the rules that follow hold; with none, true
  *   11  count (6) members               any of them holds; with none, false
- * An address at or past L makes its rule false. Groups nest at most 8 deep, the innermost clause counted.
+ * An address at or past L makes its rule false. Depth is at most 8: a clause or an empty group has 1, another group one
+ * more than its deepest member.
  *   18 00                          always holds
  *   1C 00                          never holds
  *   14 00 1C 00 20                 byte 7 equals byte 8
@@ -65,9 +68,10 @@
  * first. Choice number m keeps point i exactly if bit i of m is 1, and what it doesn't keep is lost.
  *
  * ANSWERS
- * Every call but skaldrift_state_words answers one of the numbers below, the first that applies in the order 1, 5, 2, 3, 4, 12, 6, 7, 8, 10,
- * 9, 11 among those it can meet, and 0 otherwise. Every refusal leaves all memory as it was, the state, the start
- * and `report` too, but for 8, which says so. A state that is not 65 words is 1 at every call.
+ * Every call but skaldrift_state_words answers one of the numbers below, the first that applies in the order
+ * 1, 5, 2, 3, 4, 12, 6, 7, 8, 10, 9, 11 among those it can meet, and 0 otherwise. Every refusal leaves all memory as it
+ * was, the state, the start and `report` too, but for 8, which says so. On 0 whatever isn't named stays as it was. A
+ * state that is not 65 words is 1 at every call.
  *
  * AFTER A REFUSAL
  *   1           A length is wrong, or something overwrote the state: mend it, or open again.

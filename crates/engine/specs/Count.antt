@@ -1,4 +1,4 @@
--- The choice points of a log go by addresses and lengths alone, so counting them needs no bytes: this is `points` of the records' writes
+-- Inner: the choice points of a log go by addresses and lengths alone, so counting them needs no bytes. This is `points` of the records' writes
 -- (`proofs/PointLaws.antt`).
 use Prim.Native.Nat.{ℕ, _+_, _≤_}
 use mathlib.Core.Path.{_≡_}
@@ -6,8 +6,10 @@ use mathlib.Core.Bool.{true}
 use mathlib.Core.List.{List, [], _∷_}
 use lib.ListN.{length}
 use Rattle.region.specs.Limits.{image-limit, writes-limit, log-limit}
-use Rattle.replay.specs.Choice.{touched}
+use Rattle.replay.specs.AsyncSpec.{size-to-chunks, flush-writes-selective}
+use Rattle.replay.specs.Choice.{touched, rows-of}
 use Rattle.records.specs.State.{log-records, together, records-inside}
+use Rattle.records.specs.Log.{last-writes}
 use Rattle.records.specs.declared.state.Record.{Record}
 use Rattle.records.specs.declared.state.State.{State}
 
@@ -21,3 +23,8 @@ pub record Countable (st : State) : Type 0 where
   pub few : st .count ≤ writes-limit
   pub inside : records-inside image-limit (log-records st) ≡ true
   pub room : together (log-records st) ≤ log-limit
+
+-- the last `left` writes replayed over an image by the chunks that choice number m keeps
+abbrev pub replayed-by-choice : (C : ℕ) (image : List ℕ) (st : State) (left : ℕ) (log : List ℕ) (at m : ℕ) → List ℕ
+replayed-by-choice C image st left log at m =
+    flush-writes-selective C image (last-writes st left log at) (rows-of C (size-to-chunks C (length image)) (last-writes st left log at) m)

@@ -5,7 +5,7 @@ use sheet::Judged;
 use sheet::judge;
 ghost use mathlib.Core.Path.{_≡_};
 ghost use lib.ListN.{length};
-ghost use Rattle.sheet.specs.Sheet.{obeys};
+ghost use Rattle.sheet.specs.Sheet.{allows};
 ghost use Rattle.records.specs.State.{view};
 ghost use Rattle.engine.specs.Search.{Ready, Searches};
 
@@ -16,7 +16,7 @@ pub enum Outcome {
 
 // A sheet that is malformed nothing obeys.
 fn obeyed(sheet: &[u8], image: &[u8]) -> bool
-    ensures { λ r. ⌜ r ≡ obeys (now (sheet .entry)) (now (image .entry)) (now (image .entry)) ⌝ }
+    ensures { λ r. ⌜ r ≡ allows (now (sheet .entry)) (now (image .entry)) ⌝ }
 {
     match judge(sheet, image) {
         Judged::Obeys => true,

@@ -8,12 +8,12 @@ ghost use mathlib.Core.Path.{_≡_};
 ghost use Prim.Native.Nat.{_+_, _≤_};
 ghost use lib.ListN.{length};
 ghost use Rattle.region.specs.Limits.{const-persistence-chunk-size, points-limit};
-ghost use Rattle.replay.specs.AsyncSpec.{size-to-chunks, flush-writes-selective, write};
-ghost use Rattle.replay.specs.Choice.{touched, rows-of};
+ghost use Rattle.replay.specs.AsyncSpec.{write};
+ghost use Rattle.replay.specs.Choice.{touched};
 ghost use Rattle.cuts.specs.Number.{choice-image};
 ghost use Rattle.records.specs.State.{view};
-ghost use Rattle.records.specs.Log.{last-records, last-writes, Remaining};
-ghost use Rattle.engine.specs.Count.{record-points};
+ghost use Rattle.records.specs.Log.{last-records, Remaining};
+ghost use Rattle.engine.specs.Count.{record-points, replayed-by-choice};
 ghost use Rattle.engine.specs.Search.{Ready};
 
 // The last `left` writes, whose bytes begin at `at`, laid over `work` by the chunks that m keeps,
@@ -21,7 +21,7 @@ ghost use Rattle.engine.specs.Search.{Ready};
 pub fn replay_chosen(state: State, log: &[u8], work: &mut [u8], at: usize, m: usize, left: usize)
     requires { ⌜ Remaining (length (now work)) state (length (now log)) at left ⌝ }
     requires { ⌜ record-points const-persistence-chunk-size (last-records state left) ≤ points-limit ⌝ }
-    ensures { λ _. ⌜ now (work .exit) ≡ flush-writes-selective const-persistence-chunk-size (now (work .entry)) (last-writes state left (now (log .entry)) at) (rows-of const-persistence-chunk-size (size-to-chunks const-persistence-chunk-size (length (now (work .entry)))) (last-writes state left (now (log .entry)) at) m) ⌝ }
+    ensures { λ _. ⌜ now (work .exit) ≡ replayed-by-choice const-persistence-chunk-size (now (work .entry)) state left (now (log .entry)) at m ⌝ }
 {
     if left == 0 {
         return;

@@ -1,4 +1,4 @@
--- What the steps of a run ask and promise. A round begins and ends on an empty log.
+-- Inner: what the steps of a run ask and promise. A round begins and ends on an empty log.
 use Prim.Native.Nat.{ℕ, _+_, _≤_}
 use mathlib.Core.Path.{_≡_}
 use mathlib.Core.Bool.{true, _&&_}

@@ -1,6 +1,7 @@
 -- The judging call and the gate. Document 01, "The gate": "With the new write in the log, let n be the number of choice points. The gate tries all m
 -- from 0 to 2^n-1. Admitted: write recorded, n reported, working image = the new read image. Denied: least bad m reported, working image = that bad
--- image. A judging call gives the same answer and working image without recording." Both meet 1, 5, 2, 3, 4, 7 and 8.
+-- image. A judging call gives the same answer and working image without recording." Both meet 1, 5, 2, 3, 4, 7 and 8. This
+-- takes the place of `write` with its permission in power_t.rs and power_v.rs.
 use Prim.Native.Nat.{ℕ, _+_, _≤_}
 use mathlib.Core.Path.{_≡_}
 use mathlib.Core.Bool.{true, _&&_}
@@ -9,12 +10,11 @@ use lib.Dec.{leb, eqb}
 use lib.ListN.{length}
 use Rattle.region.specs.Limits.{writes-limit, points-limit, const-persistence-chunk-size}
 use Rattle.region.specs.Answer.{Report, refusal-number, unless, if-done}
-use Rattle.region.specs.Pmemspec.{update-bytes}
 use Rattle.replay.specs.AsyncSpec.{AsyncView, write}
 use Rattle.cuts.specs.Number.{choice-points}
 use Rattle.verdict.specs.Search as search
 use Rattle.sheet.specs.Sheet.{well-formed}
-use Rattle.records.specs.State.{log-records, together, view, sound, appended}
+use Rattle.records.specs.State.{log-records, together, view, sound, appended, log-with}
 use Rattle.writelog.specs.Write.{room-number}
 use Rattle.records.specs.declared.state.State.{State}
 use Rattle.engine.specs.Search.{sheet-verdict, sheet-image}
@@ -88,7 +88,7 @@ pub record Judges (image : List ℕ) (st : State) (log sheet work : List ℕ) (a
 pub record Gates (image : List ℕ) (st : State) (log sheet work : List ℕ) (addr : ℕ) (bytes : List ℕ) (answer : Verdict) (st′ : State) (log′ work′ : List ℕ) : Type 0 where
   pub answers : verdict-report answer ≡ judge-report image st log sheet work addr bytes
   pub state-after : st′ ≡ if-done (judge-number image st log sheet work addr bytes) (appended st addr (length bytes)) st
-  pub log-after : log′ ≡ if-done (judge-number image st log sheet work addr bytes) (update-bytes log (together (log-records st)) bytes) log
+  pub log-after : log′ ≡ if-done (judge-number image st log sheet work addr bytes) (log-with st log bytes) log
   pub work-after : work′ ≡ judge-work image st log sheet work addr bytes
 
 -- What the inner functions ask and promise. A state that is sound, with its outstanding bytes counted.

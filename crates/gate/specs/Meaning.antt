@@ -12,7 +12,7 @@ use Rattle.replay.specs.AsyncSpec.{AsyncView, write, readable, can-crash}
 use Rattle.cuts.specs.Number.{choice-image}
 use Rattle.verdict.specs.Search.{least-bad}
 use Rattle.verdict.specs.Gate.{gate-numbers}
-use Rattle.sheet.specs.Sheet.{well-formed, obeys}
+use Rattle.sheet.specs.Sheet.{well-formed, allows}
 use Rattle.records.specs.State.{log-records, together, view, sound}
 use Rattle.records.specs.declared.state.State.{State}
 use Rattle.gate.specs.declared.Verdict.{Verdict}
@@ -42,16 +42,16 @@ image-of v addr bytes m = choice-image const-persistence-chunk-size (write v add
 -- image does not obey while those of all smaller numbers do. The working image is then that image, and for an admitted write what a read will see.
 pub record Means (image : List ℕ) (st : State) (log sheet work : List ℕ) (addr : ℕ) (bytes : List ℕ) (answer : Verdict) (work′ : List ℕ) : Type 0 where
   pub admits : ((n : ℕ) × (answer ≡ Admitted n))
-      ↔ (Fits image st log sheet work addr bytes × ((x : List ℕ) → could-leave (view image st log) addr bytes x → obeys sheet x x ≡ true))
+      ↔ (Fits image st log sheet work addr bytes × ((x : List ℕ) → could-leave (view image st log) addr bytes x → allows sheet x ≡ true))
   pub by-part-writes : ((n : ℕ) × (answer ≡ Admitted n))
       ↔ (Fits image st log sheet work addr bytes
-      × ((b a : List ℕ) → can-crash const-persistence-chunk-size (view image st log) b → can-result-from-partial-write const-persistence-chunk-size a b addr bytes → obeys sheet a a ≡ true))
+      × ((b a : List ℕ) → can-crash const-persistence-chunk-size (view image st log) b → can-result-from-partial-write const-persistence-chunk-size a b addr bytes → allows sheet a ≡ true))
   pub denies : ((m : ℕ) × (answer ≡ Denied m))
-      ↔ (Fits image st log sheet work addr bytes × ((x : List ℕ) × could-leave (view image st log) addr bytes x × (obeys sheet x x ≡ false)))
+      ↔ (Fits image st log sheet work addr bytes × ((x : List ℕ) × could-leave (view image st log) addr bytes x × (allows sheet x ≡ false)))
   pub names-the-first : (m : ℕ)
       → (answer ≡ Denied m)
       ↔ (Fits image st log sheet work addr bytes
-      × least-bad (λ k. obeys sheet (image-of (view image st log) addr bytes k) (image-of (view image st log) addr bytes k)) (gate-numbers const-persistence-chunk-size (view image st log) addr bytes) m)
+      × least-bad (λ k. allows sheet (image-of (view image st log) addr bytes k)) (gate-numbers const-persistence-chunk-size (view image st log) addr bytes) m)
   pub admitted-leaves : (n : ℕ) → answer ≡ Admitted n → (n ≡ gate-points image st log addr bytes) × (work′ ≡ readable (write (view image st log) addr bytes))
   pub denied-leaves : (m : ℕ) → answer ≡ Denied m → work′ ≡ image-of (view image st log) addr bytes m
 
@@ -60,4 +60,4 @@ pub record Means (image : List ℕ) (st : State) (log sheet work : List ℕ) (ad
 pub record Openable (image log sheet : List ℕ) : Type 0 where
   pub short : length image ≤ image-limit
   pub buffer : length log ≡ log-limit
-  pub obeyed : obeys sheet image image ≡ true
+  pub obeyed : allows sheet image ≡ true

@@ -6,7 +6,7 @@ use mathlib.Core.List.{List, [], _∷_}
 use lib.Dec.{leb, ltb, eqb}
 use lib.ListN.{length}
 use Rattle.region.specs.Limits.{image-limit, writes-limit, log-limit, points-limit, const-persistence-chunk-size}
-use Rattle.region.specs.Answer.{Report, refusal-number, answer-number, unless, if-done}
+use Rattle.region.specs.Answer.{refusal-number, answer-number, unless, if-done}
 use Rattle.region.specs.declared.Answer.{Answer}
 use Rattle.region.specs.declared.Answer.the-variants as answer
 use Rattle.region.specs.declared.Refusal.{Refusal}
@@ -21,7 +21,7 @@ use Rattle.records.specs.declared.state.State.{State}
 use Rattle.writelog.specs.Write.{room-number, write-number}
 use Rattle.writelog.specs.Read.{asked-number}
 use Rattle.writelog.specs.Flush.{flush-number}
-use Rattle.writelog.specs.Cut.{cut-report, chunks, cut-number}
+use Rattle.writelog.specs.Cut.{cut-report, cut-told, chunks, cut-number}
 use Rattle.writelog.specs.declared.cut.CutAnswer.{CutAnswer}
 use Rattle.writelog.specs.declared.cut.CutAnswer.the-variants as cut-answer
 use Rattle.engine.specs.Search.{sheet-verdict}
@@ -128,10 +128,6 @@ run-answers image log work addr val0 val1 rounds =
     of-run : (n : ℕ) → Answers n → (a : RunAnswer) × (run-answer-number a ≡ n)
     of-run n (answer.Done, e) = (run-answer.Done, e)
     of-run n (answer.Refused why, e) = (run-answer.Refused why, e)
-
--- a cut's report: its number, and the kept count where it is done
-abbrev pub cut-told : ℕ → ℕ → Report
-cut-told kept n = record { number = n; values = if-done n (kept ∷ []) [] }
 
 -- what a cut answers with such a number
 pub cut-answered : (kept n : ℕ) → Answers n → (a : CutAnswer) × (cut-report a ≡ cut-told kept n)

@@ -6,11 +6,11 @@ use lib.ListN.{length}
 use Rattle.region.specs.Answer.{Report, answer-number}
 use Rattle.region.specs.declared.Answer.{Answer}
 use Rattle.replay.specs.AsyncSpec.{readable}
-use Rattle.records.specs.State.{view, appended, emptied}
+use Rattle.records.specs.State.{view, appended, log-with, emptied}
 use Rattle.writelog.specs.Cut.{cut-report}
 use Rattle.records.specs.declared.state.State.{State}
 use Rattle.writelog.specs.declared.cut.CutAnswer.{CutAnswer}
-use Rattle.tape.specs.Write.{tape-write-number, log-with, predicted-with, TapeWrites}
+use Rattle.tape.specs.Write.{tape-write-number, predicted-with, TapeWrites}
 use Rattle.tape.specs.Ending.{next-start, predicted-now}
 use Rattle.tape.specs.Flush.{tape-flush-number, TapeFlushes}
 use Rattle.tape.specs.Cut.{tape-cut-number, tape-kept, TapeCuts}

@@ -4,9 +4,8 @@ use Prim.Native.Nat.{ℕ}
 use mathlib.Core.Path.{_≡_}
 use mathlib.Core.List.{List}
 use lib.ListN.{length}
-use Rattle.region.specs.Pmemspec.{update-bytes}
 use Rattle.region.specs.Answer.{if-done}
-use Rattle.records.specs.State.{log-records, together, appended}
+use Rattle.records.specs.State.{appended, log-with}
 use Rattle.gate.specs.Opening.{fresh, open-number}
 use Rattle.gate.specs.Judgement.{judge-report, judge-number, judge-work}
 use Rattle.words.specs.Words.{state-of, words-of, of-state, reported}
@@ -30,6 +29,6 @@ pub record SkaldriftJudge (words image log sheet work : List ℕ) (addr : ℕ) (
 pub record SkaldriftGate (words image log sheet work : List ℕ) (addr : ℕ) (bytes : List ℕ) (report number : ℕ) (words′ log′ work′ : List ℕ) (report′ : ℕ) : Type 0 where
   pub answers : number ≡ skaldrift-judge-number words image log sheet work addr bytes
   pub words-after : words′ ≡ if-done (skaldrift-judge-number words image log sheet work addr bytes) (words-of (appended (state-of words) addr (length bytes))) words
-  pub log-after : log′ ≡ if-done (skaldrift-judge-number words image log sheet work addr bytes) (update-bytes log (together (log-records (state-of words))) bytes) log
+  pub log-after : log′ ≡ if-done (skaldrift-judge-number words image log sheet work addr bytes) (log-with (state-of words) log bytes) log
   pub work-after : work′ ≡ of-state words work (λ st. judge-work image st log sheet work addr bytes)
   pub report-after : report′ ≡ of-state words report (λ st. reported (judge-report image st log sheet work addr bytes) report)

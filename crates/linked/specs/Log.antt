@@ -4,10 +4,9 @@ use Prim.Native.Nat.{ℕ}
 use mathlib.Core.Path.{_≡_}
 use mathlib.Core.List.{List}
 use lib.ListN.{length}
-use Rattle.region.specs.Pmemspec.{update-bytes}
 use Rattle.region.specs.Answer.{if-done}
 use Rattle.replay.specs.AsyncSpec.{readable}
-use Rattle.records.specs.State.{view, log-records, together, appended, emptied}
+use Rattle.records.specs.State.{view, appended, log-with, emptied}
 use Rattle.writelog.specs.Write.{write-number}
 use Rattle.writelog.specs.Read.{read-number}
 use Rattle.writelog.specs.Flush.{flush-number}
@@ -20,7 +19,7 @@ skaldrift-write-number words image log addr bytes = of-state words 1 (λ st. wri
 pub record SkaldriftWrite (words image log : List ℕ) (addr : ℕ) (bytes : List ℕ) (number : ℕ) (words′ log′ : List ℕ) : Type 0 where
   pub answers : number ≡ skaldrift-write-number words image log addr bytes
   pub words-after : words′ ≡ if-done (skaldrift-write-number words image log addr bytes) (words-of (appended (state-of words) addr (length bytes))) words
-  pub log-after : log′ ≡ if-done (skaldrift-write-number words image log addr bytes) (update-bytes log (together (log-records (state-of words))) bytes) log
+  pub log-after : log′ ≡ if-done (skaldrift-write-number words image log addr bytes) (log-with (state-of words) log bytes) log
 
 abbrev pub skaldrift-read-number : (words image log work : List ℕ) (addr len : ℕ) → ℕ
 skaldrift-read-number words image log work addr len = of-state words 1 (λ st. read-number image st log work addr len)

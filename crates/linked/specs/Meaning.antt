@@ -9,7 +9,7 @@ use Rattle.region.specs.Pmemspec.{can-result-from-partial-write}
 use Rattle.replay.specs.AsyncSpec.{write, readable, can-crash}
 use Rattle.verdict.specs.Search.{least-bad}
 use Rattle.verdict.specs.Gate.{gate-numbers}
-use Rattle.sheet.specs.Sheet.{obeys}
+use Rattle.sheet.specs.Sheet.{allows}
 use Rattle.records.specs.State.{view}
 use Rattle.gate.specs.Judgement.{denied-number, gate-points}
 use Rattle.gate.specs.Meaning.{Fits, could-leave, image-of}
@@ -17,13 +17,13 @@ use Rattle.words.specs.Words.{state-of}
 
 pub record MeansByNumber (words image log sheet work : List ℕ) (addr : ℕ) (bytes : List ℕ) (number : ℕ) (work′ : List ℕ) (report′ : ℕ) : Type 0 where
   pub admits : (number ≡ 0)
-      ↔ (Fits image (state-of words) log sheet work addr bytes × ((x : List ℕ) → could-leave (view image (state-of words) log) addr bytes x → obeys sheet x x ≡ true))
+      ↔ (Fits image (state-of words) log sheet work addr bytes × ((x : List ℕ) → could-leave (view image (state-of words) log) addr bytes x → allows sheet x ≡ true))
   pub by-part-writes : (number ≡ 0)
       ↔ (Fits image (state-of words) log sheet work addr bytes
-      × ((b a : List ℕ) → can-crash const-persistence-chunk-size (view image (state-of words) log) b → can-result-from-partial-write const-persistence-chunk-size a b addr bytes → obeys sheet a a ≡ true))
+      × ((b a : List ℕ) → can-crash const-persistence-chunk-size (view image (state-of words) log) b → can-result-from-partial-write const-persistence-chunk-size a b addr bytes → allows sheet a ≡ true))
   pub denies : (number ≡ denied-number)
-      ↔ (Fits image (state-of words) log sheet work addr bytes × ((x : List ℕ) × could-leave (view image (state-of words) log) addr bytes x × (obeys sheet x x ≡ false)))
+      ↔ (Fits image (state-of words) log sheet work addr bytes × ((x : List ℕ) × could-leave (view image (state-of words) log) addr bytes x × (allows sheet x ≡ false)))
   pub names-the-first : number ≡ denied-number
-      → least-bad (λ k. obeys sheet (image-of (view image (state-of words) log) addr bytes k) (image-of (view image (state-of words) log) addr bytes k)) (gate-numbers const-persistence-chunk-size (view image (state-of words) log) addr bytes) report′
+      → least-bad (λ k. allows sheet (image-of (view image (state-of words) log) addr bytes k)) (gate-numbers const-persistence-chunk-size (view image (state-of words) log) addr bytes) report′
   pub admitted-leaves : number ≡ 0 → (report′ ≡ gate-points image (state-of words) log addr bytes) × (work′ ≡ readable (write (view image (state-of words) log) addr bytes))
   pub denied-leaves : number ≡ denied-number → work′ ≡ image-of (view image (state-of words) log) addr bytes report′

@@ -6,8 +6,8 @@ use mathlib.Core.List.{List}
 use lib.ListN.{length}
 use Rattle.region.specs.Answer.{if-done}
 use Rattle.replay.specs.AsyncSpec.{readable}
-use Rattle.records.specs.State.{view, appended, emptied}
-use Rattle.tape.specs.Write.{tape-write-number, log-with, predicted-with}
+use Rattle.records.specs.State.{view, appended, log-with, emptied}
+use Rattle.tape.specs.Write.{tape-write-number, predicted-with}
 use Rattle.tape.specs.Ending.{next-start, predicted-now}
 use Rattle.tape.specs.Flush.{tape-flush-number}
 use Rattle.tape.specs.Cut.{tape-cut-number, tape-kept}

@@ -1,13 +1,13 @@
--- What a walk over the log has before it: the last `left` records, the oldest of which has its bytes at `at`.
+-- Inner: what a walk over the log has before it, the last `left` records, the oldest of which has its bytes at `at`, and what it leaves.
 use Prim.Native.Nat.{ℕ, _+_, _-_, _*_, _≤_}
 use mathlib.Core.Path.{_≡_}
 use mathlib.Core.Bool.{Bool, true, false}
 use mathlib.Core.List.{List, [], _∷_}
 use lib.ListN.{length, getD, drop}
 use Rattle.region.specs.Limits.{image-limit, writes-limit, log-limit, const-persistence-chunk-size}
-use Rattle.replay.specs.AsyncSpec.{Write, addr-to-chunk, size-to-chunks}
+use Rattle.replay.specs.AsyncSpec.{Write, addr-to-chunk, size-to-chunks, committed, flush-writes, flush-writes-selective}
 use Rattle.replay.specs.Choice.{touched}
-use Rattle.replay.specs.Rows.{set-bits, row-bytes}
+use Rattle.replay.specs.Rows.{set-bits, row-bytes, rows-at}
 use Rattle.records.specs.State.{log-records, together, writes-of, records-inside}
 use Rattle.records.specs.declared.state.Record.{Record}
 use Rattle.records.specs.declared.state.State.{State}
@@ -26,11 +26,23 @@ pub record Remaining (L : ℕ) (st : State) (log-length at left : ℕ) : Type 0 
   pub inside : records-inside L (last-records st left) ≡ true
   pub room : at + together (last-records st left) ≤ log-length
 
+-- they are replayed over an image whole, and by the rows that lie in a table from `row` on
+abbrev pub replayed-whole : (image : List ℕ) (st : State) (left : ℕ) (log : List ℕ) (at : ℕ) → List ℕ
+replayed-whole image st left log at = committed (flush-writes image (last-writes st left log at))
+
+abbrev pub replayed-by-rows : (C : ℕ) (image : List ℕ) (st : State) (left : ℕ) (log : List ℕ) (at : ℕ) (table : List ℕ) (row : ℕ) → List ℕ
+replayed-by-rows C image st left log at table row =
+    flush-writes-selective C image (last-writes st left log at) (rows-at (size-to-chunks C (length image)) left table row)
+
 -- The kept count goes by addresses and lengths alone, so it needs no bytes: this is `kept` of the records' writes (`proofs/KeptLaws.antt`).
 unfoldable pub kept-records : ℕ → List Record → List (List Bool) → ℕ
 kept-records C [] rows = 0
 kept-records C (r ∷ rs) rows =
     set-bits (λ c. getD (getD rows 0 []) c false) (addr-to-chunk C (r .addr)) (touched C (r .addr) (r .len)) + kept-records C rs (drop 1 rows)
+
+-- the pieces that a table keeps of a state's log, over an image of L bytes
+abbrev pub kept-by-table : (C L : ℕ) (st : State) (table : List ℕ) → ℕ
+kept-by-table C L st table = kept-records C (log-records st) (rows-at (size-to-chunks C L) (st .count) table 0)
 
 -- what the count asks of a sound state and a right table
 pub record KeptFrom (L : ℕ) (st : State) (table-length : ℕ) : Type 0 where

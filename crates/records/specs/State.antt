@@ -5,6 +5,7 @@ use mathlib.Core.List.{List, [], _∷_}
 use lib.Dec.{leb, eqb}
 use lib.ListN.{take, drop, set}
 use Rattle.region.specs.Limits.{image-limit, writes-limit, log-limit}
+use Rattle.region.specs.Pmemspec.{update-bytes}
 use Rattle.replay.specs.AsyncSpec as async
 use Rattle.records.specs.declared.state.Record.{Record}
 use Rattle.records.specs.declared.state.State.{State}
@@ -48,6 +49,10 @@ with-record st r = record { count = st .count; records = set (st .records) (st .
 -- the state with one record more, at index count
 abbrev pub appended : State → ℕ → ℕ → State
 appended st addr len = record { count = st .count + 1; records = set (st .records) (st .count) (record { addr = addr; len = len }) }
+
+-- the log buffer with the new bytes behind the outstanding ones
+abbrev pub log-with : State → List ℕ → List ℕ → List ℕ
+log-with st log bytes = update-bytes log (together (log-records st)) bytes
 
 -- the state with an empty log: "old records and log bytes stay"
 abbrev pub emptied : State → State

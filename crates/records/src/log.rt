@@ -13,15 +13,14 @@ ghost use mathlib.Core.Path.{_≡_};
 ghost use Prim.Native.Nat.{_+_, _*_, _≤_};
 ghost use lib.ListN.{length};
 ghost use Rattle.region.specs.Limits.{const-persistence-chunk-size};
-ghost use Rattle.replay.specs.AsyncSpec.{size-to-chunks, committed, flush-writes, flush-writes-selective};
-ghost use Rattle.replay.specs.Rows.{row-bytes, rows-at};
-ghost use Rattle.records.specs.Log.{last-writes, Remaining, kept-records, KeptFrom};
-ghost use Rattle.records.specs.State.{log-records};
+ghost use Rattle.replay.specs.AsyncSpec.{size-to-chunks};
+ghost use Rattle.replay.specs.Rows.{row-bytes};
+ghost use Rattle.records.specs.Log.{Remaining, replayed-whole, replayed-by-rows, KeptFrom, kept-by-table};
 
 // The last `left` writes, whose bytes begin at `at`, laid whole over `work`: `flush`.
 pub fn replay_whole(state: State, log: &[u8], work: &mut [u8], at: usize, left: usize)
     requires { ⌜ Remaining (length (now work)) state (length (now log)) at left ⌝ }
-    ensures { λ _. ⌜ now (work .exit) ≡ committed (flush-writes (now (work .entry)) (last-writes state left (now (log .entry)) at)) ⌝ }
+    ensures { λ _. ⌜ now (work .exit) ≡ replayed-whole (now (work .entry)) state left (now (log .entry)) at ⌝ }
 {
     if left == 0 {
         return;
@@ -46,7 +45,7 @@ pub fn replay_selected(
 )
     requires { ⌜ Remaining (length (now work)) state (length (now log)) at left ⌝ }
     requires { ⌜ (width ≡ row-bytes (size-to-chunks const-persistence-chunk-size (length (now work)))) × (row + left * width ≤ length (now rows)) ⌝ }
-    ensures { λ _. ⌜ now (work .exit) ≡ flush-writes-selective const-persistence-chunk-size (now (work .entry)) (last-writes state left (now (log .entry)) at) (rows-at (size-to-chunks const-persistence-chunk-size (length (now (work .entry)))) left (now (rows .entry)) row) ⌝ }
+    ensures { λ _. ⌜ now (work .exit) ≡ replayed-by-rows const-persistence-chunk-size (now (work .entry)) state left (now (log .entry)) at (now (rows .entry)) row ⌝ }
 {
     if left == 0 {
         return;
@@ -61,7 +60,7 @@ pub fn replay_selected(
 // The pieces that a right table keeps: the set bits among each write's touched chunks, summed.
 pub fn kept(state: State, size: usize, rows: &[u8]) -> usize
     requires { ⌜ KeptFrom size state (length (now rows)) ⌝ }
-    ensures { λ r. ⌜ r ≡ kept-records const-persistence-chunk-size (log-records state) (rows-at (size-to-chunks const-persistence-chunk-size size) (state .count) (now (rows .entry)) 0) ⌝ }
+    ensures { λ r. ⌜ r ≡ kept-by-table const-persistence-chunk-size size state (now (rows .entry)) ⌝ }
 {
     let width = row_bytes(size_to_chunks(size));
     let count = state.count;

@@ -1,5 +1,6 @@
 -- Demand 3. For every run that a good opening begins, at its end: `session : Run sheet image h d → Session sheet image h d` (`proofs/Theorem.antt`).
--- The end of every prefix of a run is the end of a run (`session-throughout`).
+-- The end of every prefix of a run is the end of a run (`session-throughout`). This is what `main_first_time` and `main_after_crash` of power_sound_t.rs
+-- argue for, and `held_before_crash` of crashinv_t.rs assumes.
 use Prim.Native.Nat.{ℕ}
 use mathlib.Core.Path.{_≡_}
 use mathlib.Core.Bool.{true}
@@ -10,23 +11,28 @@ use Rattle.region.specs.declared.Answer.{Answer}
 use Rattle.region.specs.declared.Answer.the-variants.{Done}
 use Rattle.replay.specs.AsyncSpec.{committed, can-crash}
 use Rattle.cuts.specs.Packed.{are-bytes}
-use Rattle.sheet.specs.Sheet.{obeys}
+use Rattle.sheet.specs.Sheet.{allows}
 use Rattle.records.specs.declared.state.State.{State}
 use Rattle.gate.specs.Opening.{Opens}
 use Rattle.session.specs.History.{History, cut-by, _then_, replay}
 use Rattle.session.specs.Run.{Desk, seen}
 
+-- an image that a cut could leave: some rows of the right shape do
+abbrev pub could-be-left : Desk → List ℕ → Type 0
+could-be-left d x = can-crash const-persistence-chunk-size (seen d) x
+
 pub record Session (sheet image : List ℕ) (h : History) (d : Desk) : Type 0 where
-  -- "every image that a cut could leave obeys the sheet": any rows of the right shape
-  pub cuts-obey : (x : List ℕ) → can-crash const-persistence-chunk-size (seen d) x → obeys sheet x x ≡ true
+  -- "every image that a cut could leave obeys the sheet"
+  pub cuts-obey : (x : List ℕ) → could-be-left d x → allows sheet x ≡ true
   -- "the next opening, given buffers of the right size, is never refused": over any state and any log bytes, whatever of the outstanding writes is lost
   -- before it. The image as it lies there is one that a cut could leave.
-  pub next-opening-done : (x : List ℕ) → can-crash const-persistence-chunk-size (seen d) x
+  pub next-opening-done : (x : List ℕ) → could-be-left d x
       → {st : State} {log : List ℕ} {answer : Answer} {st′ : State} → length log ≡ log-limit → Opens x st log sheet answer st′ → answer ≡ Done
   -- "the image found is the one that replaying the history gives"
   pub image-is-the-replay : d .image ≡ committed (replay const-persistence-chunk-size image h)
-  -- and so is whatever image a power loss leaves: it is a cut by some rows, and the history goes on with it
-  pub found-is-the-replay : (x : List ℕ) → can-crash const-persistence-chunk-size (seen d) x
+  -- and so is whatever image a power loss leaves: it is a cut by some rows, and the history goes on with it. They are bytes, such as a desk could hand to
+  -- the call.
+  pub found-is-the-replay : (x : List ℕ) → could-be-left d x
       → (table : List ℕ) × are-bytes table × (x ≡ committed (replay const-persistence-chunk-size image (h then cut-by table 0)))
   -- and so are the writes that a flush or cut would settle next
   pub outstanding-are-the-replay : seen d .outstanding-writes ≡ replay const-persistence-chunk-size image h .outstanding-writes

@@ -1,4 +1,4 @@
--- What the inner functions answer, each as a reader of `Sheet` with what it found judged at once. The contract of `judge` cites none of this.
+-- Inner: what the functions below `judge` answer, each as a reader of `Sheet` with what it found judged at once. The contract of `judge` cites none of this.
 use Prim.Native.Nat.{ℕ}
 use mathlib.Core.Bool.{Bool, true, false}
 use mathlib.Core.List.{List}

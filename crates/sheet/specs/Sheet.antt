@@ -240,18 +240,22 @@ abbrev pub rule-holds : Option Rule → (before after : List ℕ) → Bool
 rule-holds none before after = false
 rule-holds (some r) before after = holds r before after
 
--- The sheet says a rule, and it holds.
+-- The sheet says a rule, and it holds: `permits` of power_t.rs and power_v.rs, where the predicate is ghost.
 unfoldable pub obeys : List ℕ → (before after : List ℕ) → Bool
 obeys s before after = rule-holds (read-sheet s) before after
+
+-- An image that the sheet allows is one that obeys it, compared with itself: an opening asks this, and edition 1 never more.
+abbrev pub allows : (sheet image : List ℕ) → Bool
+allows s image = obeys s image image
 
 abbrev pub verdict : (formed obeyed : Bool) → Judged
 verdict false obeyed = Malformed
 verdict true true = Obeys
 verdict true false = Breaks
 
--- What judging one image by a sheet answers: the image is compared with itself.
+-- What judging one image by a sheet answers.
 unfoldable pub judged : (sheet image : List ℕ) → Judged
-judged s image = verdict (well-formed s) (obeys s image image)
+judged s image = verdict (well-formed s) (allows s image)
 
 -- Document 01's number at opening, which judges the one image that it is given.
 -- 5 is the number of a malformed sheet at every call; where the gate finds an image that breaks the sheet, its own number is 8.

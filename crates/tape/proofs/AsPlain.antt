@@ -15,7 +15,7 @@ use Rattle.region.proofs.Booleans.{both-true}
 use Rattle.replay.specs.AsyncSpec.{readable, flush-selective}
 use Rattle.replay.specs.Kept.{kept}
 use Rattle.replay.specs.Rows.{row-bytes, rows-at, rows-filled, rows-right}
-use Rattle.records.specs.State.{view, appended, emptied}
+use Rattle.records.specs.State.{view, appended, log-with, emptied}
 use Rattle.writelog.specs.Write.{write-number, Writes}
 use Rattle.writelog.specs.Flush.{flush-number, Flushes}
 use Rattle.writelog.specs.Cut.{chunks, cut-number, cut-kept, cut-image, Cuts}
@@ -25,7 +25,7 @@ use Rattle.records.proofs.Soundness.{facts-sound}
 use Rattle.writelog.proofs.FlushLaws.{flush-sound}
 use Rattle.writelog.proofs.CutLaws.{cut-good}
 use Rattle.tape.specs.Epoch.{epoch-rows}
-use Rattle.tape.specs.Write.{tape-write-number, log-with, TapeWrites}
+use Rattle.tape.specs.Write.{tape-write-number, TapeWrites}
 use Rattle.tape.specs.Ending.{predicted-now}
 use Rattle.tape.specs.Flush.{tape-flush-number, TapeFlushes}
 use Rattle.tape.specs.Cut.{tape-cut-number, tape-kept, TapeCuts}

@@ -14,12 +14,12 @@ use Rattle.region.proofs.AnswerLaws.{not-done, done-changed}
 use Rattle.replay.specs.AsyncSpec.{AsyncView, flush, readable, write, can-crash-as}
 use Rattle.cuts.specs.Bits.{chunks}
 use Rattle.cuts.proofs.Flush.{flush-leaves-the-read-image}
-use Rattle.records.specs.State.{view, writes-of, appended, emptied}
+use Rattle.records.specs.State.{view, writes-of, appended, log-with, emptied}
 use Rattle.records.specs.declared.state.State.{State}
 use Rattle.writelog.specs.declared.cut.CutAnswer.{CutAnswer}
 use Rattle.tape.specs.Epoch.{epoch-rows, row-place}
 use Rattle.tape.specs.Foretold.{foretold, predicted-image}
-use Rattle.tape.specs.Write.{tape-write-number, log-with, predicted-with, TapeWrites}
+use Rattle.tape.specs.Write.{tape-write-number, predicted-with, TapeWrites}
 use Rattle.tape.specs.Ending.{next-start, predicted-now}
 use Rattle.tape.specs.Flush.{tape-flush-number, TapeFlushes}
 use Rattle.tape.specs.Cut.{tape-cut-number, TapeCuts}

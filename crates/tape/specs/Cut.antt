@@ -2,13 +2,13 @@
 use Prim.Native.Nat.{ℕ}
 use mathlib.Core.Path.{_≡_}
 use mathlib.Core.Bool.{false}
-use mathlib.Core.List.{List, [], _∷_}
+use mathlib.Core.List.{List}
 use lib.ListN.{length}
 use Rattle.region.specs.Limits.{const-persistence-chunk-size}
 use Rattle.region.specs.Answer.{if-done}
 use Rattle.replay.specs.Kept.{kept}
 use Rattle.records.specs.State.{view, emptied}
-use Rattle.writelog.specs.Cut.{cut-report, chunks}
+use Rattle.writelog.specs.Cut.{cut-report, cut-told, chunks}
 use Rattle.records.specs.declared.state.State.{State}
 use Rattle.writelog.specs.declared.cut.CutAnswer.{CutAnswer}
 use Rattle.tape.specs.Epoch.{epoch-rows}
@@ -24,7 +24,7 @@ tape-kept image st log tape start =
 
 -- what a tape cut promises: its number with the kept count, and the state, the start, the image and the predicted image afterwards
 pub record TapeCuts (image : List ℕ) (st : State) (log tape : List ℕ) (start : ℕ) (predicted : List ℕ) (answer : CutAnswer) (st′ : State) (start′ : ℕ) (image′ predicted′ : List ℕ) : Type 0 where
-  pub answers : cut-report answer ≡ record { number = tape-cut-number image st log tape start predicted; values = if-done (tape-cut-number image st log tape start predicted) (tape-kept image st log tape start ∷ []) [] }
+  pub answers : cut-report answer ≡ cut-told (tape-kept image st log tape start) (tape-cut-number image st log tape start predicted)
   pub state-after : st′ ≡ if-done (tape-cut-number image st log tape start predicted) (emptied st) st
   pub start-after : start′ ≡ if-done (tape-cut-number image st log tape start predicted) (next-start (length image) st start) start
   pub image-after : image′ ≡ if-done (tape-cut-number image st log tape start predicted) (predicted-now image st log tape start) image

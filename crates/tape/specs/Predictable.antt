@@ -1,4 +1,4 @@
--- What the prediction asks: a sound log over an image, a buffer of the image's length, and an epoch with a row for each write.
+-- Inner: what the prediction asks, a sound log over an image, a buffer of the image's length, and an epoch with a row for each write.
 use Prim.Native.Nat.{ℕ, _≤_}
 use mathlib.Core.Path.{_≡_}
 use mathlib.Core.List.{List}

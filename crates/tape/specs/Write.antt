@@ -6,11 +6,10 @@ use mathlib.Core.List.{List}
 use lib.Dec.{eqb}
 use lib.ListN.{length}
 use Rattle.region.specs.Limits.{const-persistence-chunk-size}
-use Rattle.region.specs.Pmemspec.{update-bytes}
 use Rattle.region.specs.Answer.{answer-number, unless, if-done}
 use Rattle.region.specs.declared.Answer.{Answer}
 use Rattle.replay.specs.AsyncSpec.{size-to-chunks}
-use Rattle.records.specs.State.{view, log-records, together, sound, appended}
+use Rattle.records.specs.State.{view, sound, appended, log-with}
 use Rattle.writelog.specs.Write.{room-number}
 use Rattle.records.specs.declared.state.State.{State}
 use Rattle.tape.specs.Epoch.{epoch-number}
@@ -32,10 +31,6 @@ tape-room-number L st tape start addr n =
 unfoldable pub tape-write-number : List ℕ → State → List ℕ → List ℕ → ℕ → List ℕ → ℕ → ℕ → ℕ
 tape-write-number image st log tape start predicted addr n =
     unless (tape-sound (length image) st (length log) (length predicted)) 1 (tape-room-number (length image) st tape start addr n)
-
--- the log buffer with the new bytes behind the outstanding ones
-abbrev pub log-with : State → List ℕ → List ℕ → List ℕ
-log-with st log bytes = update-bytes log (together (log-records st)) bytes
 
 -- the predicted image with the new write in the log
 abbrev pub predicted-with : List ℕ → State → List ℕ → List ℕ → ℕ → ℕ → List ℕ → List ℕ

@@ -19,6 +19,10 @@ abbrev pub cut-report : CutAnswer → Report
 cut-report (Kept k) = record { number = 0; values = k ∷ [] }
 cut-report (Refused why) = record { number = refusal-number why; values = [] }
 
+-- the report of a cut with this number: the kept count where it is done, and nothing else
+abbrev pub cut-told : (kept number : ℕ) → Report
+cut-told kept number = record { number = number; values = if-done number (kept ∷ []) [] }
+
 -- the chunks of an image
 abbrev pub chunks : List ℕ → ℕ
 chunks image = size-to-chunks const-persistence-chunk-size (length image)
@@ -42,6 +46,6 @@ cut-kept image st log table = kept const-persistence-chunk-size (view image st l
 
 -- what a cut promises: its number with the kept count, the state and the image afterwards
 pub record Cuts (image : List ℕ) (st : State) (log table : List ℕ) (answer : CutAnswer) (st′ : State) (image′ : List ℕ) : Type 0 where
-  pub answers : cut-report answer ≡ record { number = cut-number image st log table; values = if-done (cut-number image st log table) (cut-kept image st log table ∷ []) [] }
+  pub answers : cut-report answer ≡ cut-told (cut-kept image st log table) (cut-number image st log table)
   pub state-after : st′ ≡ if-done (cut-number image st log table) (emptied st) st
   pub image-after : image′ ≡ if-done (cut-number image st log table) (cut-image image st log table) image

@@ -5,10 +5,9 @@ use mathlib.Core.List.{List}
 use lib.Dec.{leb, ltb}
 use lib.ListN.{length}
 use Rattle.region.specs.Limits.{writes-limit, log-limit}
-use Rattle.region.specs.Pmemspec.{update-bytes}
 use Rattle.region.specs.Answer.{answer-number, unless, if-done}
 use Rattle.region.specs.declared.Answer.{Answer}
-use Rattle.records.specs.State.{log-records, together, sound, appended}
+use Rattle.records.specs.State.{log-records, together, sound, appended, log-with}
 use Rattle.records.specs.declared.state.State.{State}
 
 -- the tests of a write of n bytes, from 2 on
@@ -26,4 +25,4 @@ write-number image st log addr n = unless (sound (length image) st (length log))
 pub record Writes (image : List ℕ) (st : State) (log : List ℕ) (addr : ℕ) (bytes : List ℕ) (answer : Answer) (st′ : State) (log′ : List ℕ) : Type 0 where
   pub answers : answer-number answer ≡ write-number image st log addr (length bytes)
   pub state-after : st′ ≡ if-done (write-number image st log addr (length bytes)) (appended st addr (length bytes)) st
-  pub log-after : log′ ≡ if-done (write-number image st log addr (length bytes)) (update-bytes log (together (log-records st)) bytes) log
+  pub log-after : log′ ≡ if-done (write-number image st log addr (length bytes)) (log-with st log bytes) log
