@@ -1,70 +1,63 @@
--- The viewer's number, case by case, the length of its part, and what settles the part. Assumes nothing.
-use Prim.Native.Nat.{ℕ, _+_, _-_, _≤_, _<_}
+-- The viewer's number, case by case, and what settles the part. Assumes nothing.
+use Prim.Native.Nat.{ℕ, _+_, _≤_, _<_}
 use native.Mathlib.Nat.{add-zero, add-comm}
 use native.Mathlib.Omega.{arith}
 use mathlib.Core.Path.{_≡_, refl, sym, ap, ap₂, _∙_}
 use mathlib.Core.Logic.{_⊎_, inl, inr, ⊎-elim}
 use mathlib.Core.Bool.{Bool, true, false}
 use mathlib.Core.List.{List, []}
-use lib.Dec.{ltb}
-use lib.ListN.{length, drop, length-drop}
-use lib.Seq.{length-take-le}
+use lib.Dec.{leb}
+use lib.ListN.{length}
 use denote.Ref.{RefT, ptr, now}
-use borrow.Author.Tests.{lt-ltb, le-ltb, ltb-true, ltb-false}
+use borrow.Author.Tests.{lt-leb, le-leb, leb-true, leb-false}
 use Rattle.region.specs.Limits.{image-limit}
 use Rattle.region.specs.Pmemspec.{extract-bytes}
 use Rattle.region.proofs.AnswerLaws.{not-done}
-use Rattle.region.specs.Viewer.{viewer-answer, viewer-part, Viewed}
+use Rattle.region.specs.Viewer.{viewer-number, viewer-part, Viewed}
 
 module _ (L addr len : ℕ) where
-  pub answer-over : image-limit < L → viewer-answer L addr len ≡ 1
-  answer-over over = rw (lt-ltb image-limit L over)
+  pub answer-over : image-limit < L → viewer-number L addr len ≡ 1
+  answer-over over = rw (lt-leb L image-limit over)
 
-  pub answer-past : L ≤ image-limit → L < addr + len → viewer-answer L addr len ≡ 2
-  answer-past fits past = rw (le-ltb image-limit L fits, lt-ltb L (addr + len) past)
+  pub answer-past : L ≤ image-limit → L < addr + len → viewer-number L addr len ≡ 2
+  answer-past fits past = rw (le-leb L image-limit fits, lt-leb (addr + len) L past)
 
-  pub answer-within : L ≤ image-limit → addr + len ≤ L → viewer-answer L addr len ≡ 0
-  answer-within fits within = rw (le-ltb image-limit L fits, le-ltb L (addr + len) within)
+  pub answer-within : L ≤ image-limit → addr + len ≤ L → viewer-number L addr len ≡ 0
+  answer-within fits within = rw (le-leb L image-limit fits, le-leb (addr + len) L within)
 
   -- the number is 1, 2 or 0, and each has its reason
   abbrev pub Over : Type 0
-  Over = (image-limit < L) × (viewer-answer L addr len ≡ 1)
+  Over = (image-limit < L) × (viewer-number L addr len ≡ 1)
 
   abbrev pub Past : Type 0
-  Past = (L ≤ image-limit) × (L < addr + len) × (viewer-answer L addr len ≡ 2)
+  Past = (L ≤ image-limit) × (L < addr + len) × (viewer-number L addr len ≡ 2)
 
   abbrev pub Within : Type 0
-  Within = (L ≤ image-limit) × (addr + len ≤ L) × (viewer-answer L addr len ≡ 0)
+  Within = (L ≤ image-limit) × (addr + len ≤ L) × (viewer-number L addr len ≡ 0)
 
   pub viewer-cases : Over ⊎ (Past ⊎ Within)
-  viewer-cases = by-limit (ltb image-limit L) refl
+  viewer-cases = by-limit (leb L image-limit) refl
     where
-      by-range : L ≤ image-limit → (b : Bool) → ltb L (addr + len) ≡ b → Past ⊎ Within
-      by-range fits true e = let past = ltb-true L (addr + len) e in inl (fits, past, answer-past fits past)
-      by-range fits false e = let within = ltb-false L (addr + len) e in inr (fits, within, answer-within fits within)
+      by-range : L ≤ image-limit → (b : Bool) → leb (addr + len) L ≡ b → Past ⊎ Within
+      by-range fits true e = let within = leb-true (addr + len) L e in inr (fits, within, answer-within fits within)
+      by-range fits false e = let past = leb-false (addr + len) L e in inl (fits, past, answer-past fits past)
 
-      by-limit : (b : Bool) → ltb image-limit L ≡ b → Over ⊎ (Past ⊎ Within)
-      by-limit true e = let over = ltb-true image-limit L e in inl (over, answer-over over)
-      by-limit false e = inr (by-range (ltb-false image-limit L e) (ltb L (addr + len)) refl)
+      by-limit : (b : Bool) → leb L image-limit ≡ b → Over ⊎ (Past ⊎ Within)
+      by-limit true e = inr (by-range (leb-true L image-limit e) (leb (addr + len) L) refl)
+      by-limit false e = let over = leb-false L image-limit e in inl (over, answer-over over)
 
   -- so the number tells the reason
-  pub done-within : viewer-answer L addr len ≡ 0 → (L ≤ image-limit) × (addr + len ≤ L)
+  pub done-within : viewer-number L addr len ≡ 0 → (L ≤ image-limit) × (addr + len ≤ L)
   done-within e = ⊎-elim (λ o. (omega arith, omega arith)) (⊎-elim (λ p. (omega arith, omega arith)) (λ w. (w .0, w .1))) viewer-cases
 
 module _ (image : List ℕ) (addr len : ℕ) where
   -- "On any refusal the part is empty"
-  pub part-none : 0 < viewer-answer (length image) addr len → viewer-part image addr len ≡ []
-  part-none refused = not-done (viewer-answer (length image) addr len) (extract-bytes image addr len) [] refused
-
-  -- a part that is handed back has the asked length
-  pub part-length : viewer-answer (length image) addr len ≡ 0 → length (viewer-part image addr len) ≡ len
-  part-length done =
-      let room : len ≤ length image - addr = omega (arith, done-within (length image) addr len done) in
-      rw done (length-take-le len (drop addr image) (rw (length-drop addr image) room))
+  pub part-none : 0 < viewer-number (length image) addr len → viewer-part image addr len ≡ []
+  part-none refused = not-done (viewer-number (length image) addr len) (extract-bytes image addr len) [] refused
 
 module _ (image : RefT (List ℕ)) (addr len : ℕ) (part : RefT (List ℕ)) where
   abbrev number : ℕ
-  number = viewer-answer (length (now image)) addr len
+  number = viewer-number (length (now image)) addr len
 
   -- A part that lies addr bytes into the image and has len of its bytes is the viewer's, where the ask is good,
   pub viewed :

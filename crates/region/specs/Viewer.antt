@@ -2,12 +2,11 @@
 -- the caller's slice, not a copy. On any refusal the part is empty; a companion question with the same arguments gives the number."
 use Prim.Native.Nat.{ℕ, _+_}
 use mathlib.Core.Path.{_≡_}
-use mathlib.Core.Bool.{cond}
 use mathlib.Core.List.{List, []}
-use lib.Dec.{ltb}
+use lib.Dec.{leb}
 use lib.ListN.{length}
 use denote.Ref.{RefT, ptr, now}
-use Rattle.region.specs.Answer.{if-done}
+use Rattle.region.specs.Answer.{unless, if-done}
 use Rattle.region.specs.Limits.{image-limit}
 use Rattle.region.specs.Pmemspec.{extract-bytes}
 use Rattle.region.specs.declared.viewer.Which.{Which}
@@ -19,16 +18,19 @@ chosen First first second = first
 chosen Second first second = second
 
 -- the number: 1 is "L over 4096", 2 is "addr + len > L, in whole numbers"
-abbrev pub viewer-answer : ℕ → ℕ → ℕ → ℕ
-viewer-answer L addr len = cond (ltb image-limit L) 1 (cond (ltb L (addr + len)) 2 0)
+abbrev pub viewer-number : ℕ → ℕ → ℕ → ℕ
+viewer-number L addr len =
+    unless (leb L image-limit) 1
+    (unless (leb (addr + len) L) 2
+    0)
 
 -- the part's bytes: those asked for, or none
 abbrev pub viewer-part : List ℕ → ℕ → ℕ → List ℕ
-viewer-part image addr len = if-done (viewer-answer (length image) addr len) (extract-bytes image addr len) []
+viewer-part image addr len = if-done (viewer-number (length image) addr len) (extract-bytes image addr len) []
 
 -- how far into the image the part starts. The empty part of a refusal stands at the image's first byte.
 abbrev pub viewer-start : ℕ → ℕ → ℕ → ℕ
-viewer-start L addr len = if-done (viewer-answer L addr len) addr 0
+viewer-start L addr len = if-done (viewer-number L addr len) addr 0
 
 -- The part is of the image's own memory: the same block, that far into it, and these bytes. So place, length and bytes are settled, which is all
 -- that a machine has of a slice.

@@ -6,7 +6,7 @@ use crate::Refusal;
 ghost use mathlib.Core.Path.{_≡_};
 ghost use lib.ListN.{length};
 ghost use Rattle.region.specs.Answer.{answer-number};
-ghost use Rattle.region.specs.Viewer.{chosen, viewer-answer, Viewed};
+ghost use Rattle.region.specs.Viewer.{chosen, viewer-number, Viewed};
 
 // Which of the two lent images is asked.
 pub enum Which {
@@ -26,7 +26,7 @@ fn choose<'a>(first: &'a [u8], second: &'a [u8], which: Which) -> &'a [u8]
 
 // The answer for an image of l bytes. No sum is made, so none wraps: addr = 2^64-1 with len 2 is 2.
 fn view_answer(l: usize, addr: usize, len: usize) -> Answer
-    ensures { λ r. ⌜ answer-number r ≡ viewer-answer l addr len ⌝ }
+    ensures { λ r. ⌜ answer-number r ≡ viewer-number l addr len ⌝ }
 {
     if IMAGE_LIMIT < l {
         return Answer::Refused(Refusal::BadState);
@@ -67,7 +67,7 @@ pub fn viewer_number<'a>(
     addr: usize,
     len: usize,
 ) -> Answer
-    ensures { λ r. ⌜ answer-number r ≡ viewer-answer (length (now (chosen which (first .entry) (second .entry)))) addr len ⌝ }
+    ensures { λ r. ⌜ answer-number r ≡ viewer-number (length (now (chosen which (first .entry) (second .entry)))) addr len ⌝ }
 {
     let image = choose(first, second, which);
     view_answer(image.len(), addr, len)

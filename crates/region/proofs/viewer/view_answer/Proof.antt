@@ -1,4 +1,4 @@
--- `region::viewer::view_answer` meets its contract: each return is one case of `viewer-answer`, in document 01's order. Assumes nothing.
+-- `region::viewer::view_answer` meets its contract: each return is one case of `viewer-number`, in document 01's order. Assumes nothing.
 use native.Mathlib.Omega.{arith}
 use mathlib.Core.Path.{sym}
 use Rattle.region.proofs.ViewerLaws.{answer-over, answer-past, answer-within}

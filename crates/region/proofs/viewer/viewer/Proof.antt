@@ -9,7 +9,7 @@ use denote.Ref.{now}
 use borrow.Author.Needs.{needs}
 use Rattle.region.specs.Limits.{image-limit}
 use Rattle.region.specs.Answer.{answer-number}
-use Rattle.region.specs.Viewer.{viewer-answer}
+use Rattle.region.specs.Viewer.{viewer-number}
 use Rattle.region.proofs.AnswerLaws.{refusal-not-done}
 use Rattle.region.proofs.ViewerLaws.{done-within, viewed, not-viewed}
 use Rattle.region.proofs.viewer.viewer.Statement.{statement}
@@ -20,7 +20,7 @@ abbrev L : tie.After-view-answer → ℕ
 L c = length (now (c .before .choose .result))
 
 abbrev number : tie.After-view-answer → ℕ
-number c = let args = c .before .before .before .before .args in viewer-answer (L c) (args .addr) (args .len)
+number c = let args = c .before .before .before .before .args in viewer-number (L c) (args .addr) (args .len)
 
 -- 'done' is 0,
 done : (c : tie.After-enum-told) → number (c .before .before) ≡ 0
@@ -38,21 +38,6 @@ refused c =
     let told = c .enum-told2 .given in
     rw (← c .before .before .view-answer .ensures, told .1) (refusal-not-done (told .0 .0))
 
-choose-requires : tie.Need-choose-requires
-choose-requires c κs = search needs
-
-view-answer-requires : tie.Need-view-answer-requires
-view-answer-requires c κs = search needs
-
-enum-told : tie.Need-enum-told
-enum-told c = search needs
-
-enum-told-2 : tie.Need-enum-told-2
-enum-told-2 c = search needs
-
-slice-aggregate-result : tie.Need-slice-aggregate-result
-slice-aggregate-result c = search needs
-
 returns : tie.Need-returns
 returns c =
     let args = c .before .before .before .before .before .before .before .args in
@@ -61,12 +46,6 @@ returns c =
 
 add-end : tie.Need-add-end
 add-end c = omega (arith, inside c)
-
-sub-result : tie.Need-sub-result
-sub-result c = search needs
-
-part-result-start : tie.Need-part-result-start
-part-result-start c = search needs
 
 part-result-end : tie.Need-part-result-end
 part-result-end c = omega (arith, inside c)
@@ -81,14 +60,14 @@ pub viewer-spec : {M : Type 1} → statement M
 viewer-spec =
     tie.close
     (tie.spec
-    choose-requires
-    view-answer-requires
-    enum-told
-    enum-told-2
-    slice-aggregate-result
+    (λ c κs. search needs)
+    (λ c κs. search needs)
+    (λ c. search needs)
+    (λ c. search needs)
+    (λ c. search needs)
     returns
     add-end
-    sub-result
-    part-result-start
+    (λ c. search needs)
+    (λ c. search needs)
     part-result-end
     returns-2)
