@@ -1,7 +1,9 @@
 -- Demand 3 by tape. Along a run by tape the view and the epoch's start are those that the events and the tape tell: a write goes to the end of both
--- logs, and both endings leave the image that the tape predicts. Assumes nothing.
+-- logs, and both endings leave the image that the tape predicts. So is the predicted image, which every accepted call fills and no other touches.
+-- Assumes nothing.
 use Prim.Native.Nat.{ℕ, _+_}
 use mathlib.Core.Path.{_≡_, refl, sym, ap, ap₂, _∙_}
+use mathlib.Core.Bool.{true, false, true≢false}
 use mathlib.Core.List.{List}
 use lib.ListN.{take}
 use Rattle.region.specs.Limits.{const-persistence-chunk-size}
@@ -25,8 +27,8 @@ use Rattle.tape.proofs.Steps.{StepOfEnding, step-of-write, step-of-flush, step-
 use Rattle.session.specs.History.{Event, nothing, written, flushed, cut-by, reopened, History, _then_, if-answered, if-cut, happen, replay}
 use Rattle.session.specs.Run as run
 use Rattle.session.specs.Run.{Desk, desk, seen, Step, Run}
-use Rattle.session.specs.TapeRun.{TapeStep, judged-write, flush, cut, reopen, restart, other, TapeRun, opened, _and_, tape-throughout}
-use Rattle.session.specs.TapeTheorem.{Told, predicted-of, epoch-over, tell, replay-by-tape, prediction, TapeSession}
+use Rattle.session.specs.TapeRun.{TapeDesk, TapeStep, judged-write, flush, cut, reopen, restart, other, TapeRun, opened, _and_, tape-throughout}
+use Rattle.session.specs.TapeTheorem.{Told, predicted-of, epoch-over, tell, replay-by-tape, prediction, filled, TapeSession}
 use Rattle.session.proofs.Keeps.{left, HoldsAt}
 use Rattle.session.proofs.Steps.{numbered, step-keeps}
 use Rattle.session.proofs.Theorem.{invariant, session}
@@ -36,7 +38,7 @@ C = const-persistence-chunk-size
 
 module _ (sheet tape : List ℕ) where
   -- a step by tape is a step, and a run by tape a run
-  forget-step : {d : Desk} {start : ℕ} {e : Event} {d′ : Desk} {start′ : ℕ} → TapeStep sheet tape d start e d′ start′ → Step sheet d e d′
+  forget-step : {t : TapeDesk} {e : Event} {t′ : TapeDesk} → TapeStep sheet tape t e t′ → Step sheet (t .memory) e (t′ .memory)
   forget-step (judged-write j p) = run.judged-tape-write j p
   forget-step (flush p) = run.tape-flush p
   forget-step (cut p) = run.tape-cut p
@@ -44,7 +46,7 @@ module _ (sheet tape : List ℕ) where
   forget-step (restart e p) = run.restart p
   forget-step (other s) = s
 
-  pub forget : {image : List ℕ} {h : History} {d : Desk} {start : ℕ} → TapeRun sheet tape image h d start → Run sheet image h d
+  pub forget : {image : List ℕ} {h : History} {t : TapeDesk} → TapeRun sheet tape image h t → Run sheet image h (t .memory)
   forget (opened o) = run.opened o
   forget (r and s) = run._and_ (forget r) (forget-step s)
 
@@ -101,8 +103,10 @@ module _ (sheet tape : List ℕ) where
     open-tells answer.Done empty p = reopened-tells empty p
     open-tells (answer.Refused why) empty p = still h (run.reopen p) refl
 
-  tells : {d : Desk} {start : ℕ} {e : Event} {d′ : Desk} {start′ : ℕ} → HoldsAt sheet d → TapeStep sheet tape d start e d′ start′
-      → now d′ start′ ≡ tell C tape (now d start) e
+  abbrev at : TapeDesk → Told
+  at t = now (t .memory) (t .start)
+
+  tells : {t : TapeDesk} {e : Event} {t′ : TapeDesk} → HoldsAt sheet (t .memory) → TapeStep sheet tape t e t′ → at t′ ≡ tell C tape (at t) e
   unfolding tell
   tells h (judged-write {start = start} {answer = a} j p) = write-tells _ _ _ start h a j p
   tells h (flush {answer = a} p) = flush-tells _ _ _ _ h a p
@@ -111,13 +115,19 @@ module _ (sheet tape : List ℕ) where
   tells h (restart {start = start} empty p) = reopened-tells _ _ _ start h empty p
   tells h (other s) = still h s refl
 
-  told : {image : List ℕ} {h : History} {d : Desk} {start : ℕ} → TapeRun sheet tape image h d start → now d start ≡ replay-by-tape C tape image h
+  told : {image : List ℕ} {h : History} {t : TapeDesk} → TapeRun sheet tape image h t → at t ≡ replay-by-tape C tape image h
   unfolding replay replay-by-tape
   told {image} (opened o) = ap (λ (v : AsyncView). record { view = v; start = 0 }) (invariant sheet image (run.opened o) .replayed)
   told {image} (_and_ {e = e} r s) = tells (invariant sheet image (forget r) .holds) s ∙ ap (λ (t : Told). tell C tape t e) (told r)
 
   -- what the run says of the next accepted call by tape
-  module _ {image : List ℕ} {h : History} {d : Desk} {start : ℕ} (r : TapeRun sheet tape image h d start) where
+  module _ {image : List ℕ} {h : History} {t : TapeDesk} (r : TapeRun sheet tape image h t) where
+    abbrev d : Desk
+    d = t .memory
+
+    abbrev start : ℕ
+    start = t .start
+
     holds : HoldsAt sheet d
     holds = invariant sheet image (forget r) .holds
 
@@ -150,20 +160,62 @@ module _ (sheet tape : List ℕ) where
     unfolding replay-by-tape tell
     cut-is-predicted {predicted} p = ending-is-predicted (step-of-cut (d .image) (d .state) (d .log) tape start predicted (holds .sized) p (numbered (p .answers)) .ending)
 
-    -- the theorem
-    pub tape-session : TapeSession sheet tape image h d start
+    -- and of the buffer after any: an accepted call fills it, and a refused one leaves it as it was
+    abbrev Filled : History → List ℕ → Type 0
+    Filled h predicted = filled h ≡ true → predicted ≡ prediction C tape image h
+
+    after-write : {predicted : List ℕ} {addr : ℕ} {bytes : List ℕ} (a : Answer) {st′ : State} {log′ predicted′ : List ℕ}
+        → TapeWrites (d .image) (d .state) (d .log) tape start predicted addr bytes a st′ log′ predicted′ → Filled h predicted
+        → Filled (h then if-answered a (written addr bytes)) predicted′
+    unfolding filled replay-by-tape tell
+    after-write answer.Done p before f = write-is-predicted p
+    after-write (answer.Refused why) p before f = left _ _ (p .predicted-after) (refusal-not-done why) (sym (p .answers)) ∙ before f
+
+    after-flush : {predicted : List ℕ} (a : Answer) {st′ : State} {start′ : ℕ} {image′ predicted′ : List ℕ}
+        → TapeFlushes (d .image) (d .state) (d .log) tape start predicted a st′ start′ image′ predicted′ → Filled h predicted
+        → Filled (h then if-answered a flushed) predicted′
+    unfolding filled replay-by-tape tell
+    after-flush answer.Done p before f = flush-is-predicted p .1
+    after-flush (answer.Refused why) p before f = left _ _ (p .predicted-after) (refusal-not-done why) (sym (p .answers)) ∙ before f
+
+    after-cut : {predicted : List ℕ} (a : CutAnswer) {st′ : State} {start′ : ℕ} {image′ predicted′ : List ℕ}
+        → TapeCuts (d .image) (d .state) (d .log) tape start predicted a st′ start′ image′ predicted′ → Filled h predicted
+        → Filled (h then if-cut a (cut-by tape (start + 1))) predicted′
+    unfolding filled replay-by-tape tell
+    after-cut (cut-answer.Kept k) p before f = cut-is-predicted p .1
+    after-cut (cut-answer.Refused why) p before f = left _ _ (p .predicted-after) (refusal-not-done why) (numbered (p .answers)) ∙ before f
+
+    after-opening : {predicted : List ℕ} (a : Answer) → Filled h predicted → Filled (h then if-answered a reopened) predicted
+    unfolding filled replay-by-tape tell
+    after-opening answer.Done before f = before f
+    after-opening (answer.Refused why) before f = before f
+
+  buffer-told : {image : List ℕ} {h : History} {t : TapeDesk} → TapeRun sheet tape image h t → filled h ≡ true → t .predicted ≡ prediction C tape image h
+  unfolding filled replay-by-tape tell
+  buffer-told (opened o) f = absurd (true≢false (sym f))
+  buffer-told (r and judged-write {answer = a} j p) f = after-write r a p (λ g. buffer-told r g) f
+  buffer-told (r and flush {answer = a} p) f = after-flush r a p (λ g. buffer-told r g) f
+  buffer-told (r and cut {answer = a} p) f = after-cut r a p (λ g. buffer-told r g) f
+  buffer-told (r and reopen {answer = a} empty p) f = after-opening r a (λ g. buffer-told r g) f
+  buffer-told (r and restart empty p) f = buffer-told r f
+  buffer-told (r and other s) f = buffer-told r f
+
+  -- the theorem
+  module _ {image : List ℕ} {h : History} {t : TapeDesk} (r : TapeRun sheet tape image h t) where
+    pub tape-session : TapeSession sheet tape image h t
     tape-session =
         record {
           session = session sheet image (forget r);
           view-is-told = ap (λ (t : Told). t .view) (told r);
           start-is-told = ap (λ (t : Told). t .start) (told r);
-          write-predicts = write-is-predicted;
-          flush-leaves-the-prediction = flush-is-predicted;
-          cut-leaves-the-prediction = cut-is-predicted;
+          predicted-is-told = buffer-told r;
+          write-predicts = write-is-predicted r;
+          flush-leaves-the-prediction = flush-is-predicted r;
+          cut-leaves-the-prediction = cut-is-predicted r;
         }
 
   -- and at every prefix
-  pub tape-session-throughout : {image : List ℕ} {h : History} {d : Desk} {start : ℕ} (r : TapeRun sheet tape image h d start) → tape-throughout sheet tape (TapeSession sheet tape image) r
+  pub tape-session-throughout : {image : List ℕ} {h : History} {t : TapeDesk} (r : TapeRun sheet tape image h t) → tape-throughout sheet tape (TapeSession sheet tape image) r
   unfolding tape-throughout
   tape-session-throughout (opened o) = tape-session (opened o)
   tape-session-throughout (r and s) = (tape-session-throughout r, tape-session (r and s))

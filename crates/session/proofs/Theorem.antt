@@ -2,12 +2,13 @@
 -- every step keeps it. Assumes nothing.
 use Prim.Native.Nat.{ℕ}
 use native.Mathlib.Omega.{arith}
-use mathlib.Core.Path.{_≡_, refl, ap, subst, _∙_}
+use mathlib.Core.Path.{_≡_, refl, sym, ap, subst, _∙_}
 use mathlib.Core.Bool.{true}
 use mathlib.Core.List.{List}
 use lib.Dec.{lit<}
 use lib.ListN.{length}
 use Rattle.region.specs.Limits.{const-persistence-chunk-size, writes-limit, log-limit}
+use Rattle.region.specs.Answer.{Report}
 use Rattle.region.specs.declared.Answer.{Answer}
 use Rattle.region.specs.declared.Answer.the-variants.{Done}
 use Rattle.replay.specs.AsyncSpec.{AsyncView, flush-selective, can-crash}
@@ -26,7 +27,7 @@ use Rattle.gate.specs.Opening.{fresh, Opens}
 use Rattle.gate.proofs.Gives.{opens-means, opened-fresh, opened-holds}
 use Rattle.session.specs.History.{History, opening, _then_, cut-by, reopened, happen, replay}
 use Rattle.session.specs.Run.{Desk, desk, seen, Run, opened, _and_, cut, restart, throughout}
-use Rattle.session.specs.Theorem.{Session}
+use Rattle.session.specs.Theorem.{could-be-left, Session}
 use Rattle.session.proofs.Keeps.{HoldsAt}
 use Rattle.session.proofs.Steps.{step-keeps}
 
@@ -65,12 +66,12 @@ module _ (sheet image : List ℕ) where
       record { holds = kept .holds; replayed = kept .happened ∙ ap (λ (v : AsyncView). happen const-persistence-chunk-size v e) (before .replayed) }
 
   -- a power loss leaves what a cut by some table leaves, so the run goes on with that cut
-  pub power-loss-is-a-cut : {h : History} {d : Desk} → Run sheet image h d → (x : List ℕ) → can-crash const-persistence-chunk-size (seen d) x
-      → (table : List ℕ) × are-bytes table × Run sheet image (h then cut-by table 0) (desk x (emptied (d .state)) (d .log))
-  power-loss-is-a-cut {h} {d} r x c =
-      let i = invariant r in
-      let found = every-crash-is-a-cut (d .image) (d .state) (d .log) (i .holds .sized) (i .holds .facts) x c in
-      (found .0, found .1, r and cut (found .2))
+  module _ {h : History} {d : Desk} (r : Run sheet image h d) (x : List ℕ) (c : could-be-left d x) where
+    pub power-loss-cuts : (table : List ℕ) × are-bytes table × Cuts (d .image) (d .state) (d .log) table (Kept (cut-kept (d .image) (d .state) (d .log) table)) (emptied (d .state)) x
+    power-loss-cuts = let i = invariant r in every-crash-is-a-cut (d .image) (d .state) (d .log) (i .holds .sized) (i .holds .facts) x c
+
+    pub power-loss-is-a-cut : (table : List ℕ) × are-bytes table × Run sheet image (h then cut-by table 0) (desk x (emptied (d .state)) (d .log))
+    power-loss-is-a-cut = let found = power-loss-cuts in (found .0, found .1, r and cut (found .2))
 
   -- the theorem
   pub session : {h : History} {d : Desk} → Run sheet image h d → Session sheet image h d
@@ -81,7 +82,9 @@ module _ (sheet image : List ℕ) where
         next-opening-done = λ x c {st} {log} {answer} {st′} l p. opens-means x st log sheet p .1
             (record { short = omega (arith, c .1 .same-length, i .holds .facts .short); buffer = l; obeyed = i .holds .all-obey x c });
         image-is-the-replay = ap (λ (v : AsyncView). v .state-at-last-flush) (i .replayed);
-        found-is-the-replay = λ x c. let lost = power-loss-is-a-cut r x c in (lost .0, lost .1, ap (λ (v : AsyncView). v .state-at-last-flush) (invariant (lost .2) .replayed));
+        found-is-the-replay = λ x c.
+            let lost = power-loss-cuts r x c in
+            (lost .0, lost .1, sym (ap (λ (o : Report). o .number) (lost .2 .answers)), ap (λ (v : AsyncView). v .state-at-last-flush) (invariant (r and cut (lost .2)) .replayed));
         outstanding-are-the-replay = ap (λ (v : AsyncView). v .outstanding-writes) (i .replayed);
       }
 
@@ -97,7 +100,7 @@ module _ (sheet image : List ℕ) where
     image-opens p = session r .next-opening-done (d .image) (cut-could-leave-the-last-flush const-persistence-chunk-size (lit< tt) (seen d)) buffer p
 
     -- Over whatever a power loss leaves, the opening goes on with the history: a cut, and a reopening over other memory.
-    pub power-loss-goes-on : (x : List ℕ) → can-crash const-persistence-chunk-size (seen d) x → Opens x st log sheet answer st′
+    pub power-loss-goes-on : (x : List ℕ) → could-be-left d x → Opens x st log sheet answer st′
         → (table : List ℕ) × are-bytes table × Run sheet image (h then cut-by table 0 then reopened) (desk x st′ log)
     power-loss-goes-on x c p =
         let lost = power-loss-is-a-cut r x c in
@@ -105,5 +108,5 @@ module _ (sheet image : List ℕ) where
 
     -- What `main_after_crash` of power_sound_t.rs assumes as `held_before_crash`: whatever image the power loss leaves of a session, the opening that
     -- follows it begins a session.
-    pub held-before-crash : (x : List ℕ) → can-crash const-persistence-chunk-size (seen d) x → Opens x st log sheet answer st′ → Run sheet x opening (desk x st′ log)
+    pub held-before-crash : (x : List ℕ) → could-be-left d x → Opens x st log sheet answer st′ → Run sheet x opening (desk x st′ log)
     held-before-crash x c p = opened (rw (session r .next-opening-done x c buffer p) at p)

@@ -1,8 +1,9 @@
 -- Demand 3, by tape: "With a tape of cut choices fixed beforehand, and every recorded write, flush and cut going by it, the image predicted at each step
--- is the replay with those choices." `tape-session : TapeRun sheet tape image h d start → TapeSession sheet tape image h d start`
+-- is the replay with those choices." `tape-session : TapeRun sheet tape image h t → TapeSession sheet tape image h t`
 -- (`proofs/TapeTheorem.antt`).
 use Prim.Native.Nat.{ℕ, _+_}
 use mathlib.Core.Path.{_≡_}
+use mathlib.Core.Bool.{Bool, true, false}
 use mathlib.Core.List.{List}
 use lib.ListN.{length}
 use Rattle.region.specs.Limits.{const-persistence-chunk-size}
@@ -17,7 +18,8 @@ use Rattle.tape.specs.Write.{TapeWrites}
 use Rattle.tape.specs.Flush.{TapeFlushes}
 use Rattle.tape.specs.Cut.{TapeCuts}
 use Rattle.session.specs.History.{Event, nothing, written, flushed, cut-by, reopened, History, opening, _then_, settled}
-use Rattle.session.specs.Run.{Desk, seen}
+use Rattle.session.specs.Run.{seen}
+use Rattle.session.specs.TapeRun.{TapeDesk}
 use Rattle.session.specs.Theorem.{Session}
 
 -- what the events and the tape tell between them: a view, and where its epoch starts
@@ -51,21 +53,32 @@ module _ (C : ℕ) (tape : List ℕ) where
   abbrev pub prediction : List ℕ → History → List ℕ
   prediction image h = predicted-of (replay-by-tape image h)
 
-pub record TapeSession (sheet tape image : List ℕ) (h : History) (d : Desk) (start : ℕ) : Type 0 where
+-- an accepted call by tape has filled the buffer for the predicted image
+unfoldable pub filled : History → Bool
+filled opening = false
+filled (h then nothing) = filled h
+filled (h then written addr bytes) = true
+filled (h then flushed) = true
+filled (h then cut-by table at) = true
+filled (h then reopened) = filled h
+
+pub record TapeSession (sheet tape image : List ℕ) (h : History) (t : TapeDesk) : Type 0 where
   -- a session by tape is a session
-  pub session : Session sheet image h d
+  pub session : Session sheet image h (t .memory)
   -- the image found and the outstanding writes are the replay with the tape's choices
-  pub view-is-told : seen d ≡ replay-by-tape const-persistence-chunk-size tape image h .view
-  pub start-is-told : start ≡ replay-by-tape const-persistence-chunk-size tape image h .start
-  -- a write that the tape call accepts next leaves the prediction with it in the history
+  pub view-is-told : seen (t .memory) ≡ replay-by-tape const-persistence-chunk-size tape image h .view
+  pub start-is-told : t .start ≡ replay-by-tape const-persistence-chunk-size tape image h .start
+  -- "the image predicted at each step": what the buffer holds, once a call has filled it
+  pub predicted-is-told : filled h ≡ true → t .predicted ≡ prediction const-persistence-chunk-size tape image h
+  -- whatever the buffer held: a write that the tape call accepts next leaves the prediction with it in the history,
   pub write-predicts : {predicted : List ℕ} {addr : ℕ} {bytes : List ℕ} {st′ : State} {log′ predicted′ : List ℕ}
-      → TapeWrites (d .image) (d .state) (d .log) tape start predicted addr bytes Done st′ log′ predicted′
+      → TapeWrites (t .memory .image) (t .memory .state) (t .memory .log) tape (t .start) predicted addr bytes Done st′ log′ predicted′
       → predicted′ ≡ prediction const-persistence-chunk-size tape image (h then written addr bytes)
-  -- a flush or a cut that it accepts next leaves what was predicted, and that is the prediction of the next epoch's beginning
+  -- and a flush or a cut that it accepts next leaves what was predicted, and that is the prediction of the next epoch's beginning
   pub flush-leaves-the-prediction : {predicted : List ℕ} {st′ : State} {start′ : ℕ} {image′ predicted′ : List ℕ}
-      → TapeFlushes (d .image) (d .state) (d .log) tape start predicted Done st′ start′ image′ predicted′
+      → TapeFlushes (t .memory .image) (t .memory .state) (t .memory .log) tape (t .start) predicted Done st′ start′ image′ predicted′
       → (image′ ≡ prediction const-persistence-chunk-size tape image h) × (predicted′ ≡ prediction const-persistence-chunk-size tape image (h then flushed))
   pub cut-leaves-the-prediction : {predicted : List ℕ} {k : ℕ} {st′ : State} {start′ : ℕ} {image′ predicted′ : List ℕ}
-      → TapeCuts (d .image) (d .state) (d .log) tape start predicted (Kept k) st′ start′ image′ predicted′
+      → TapeCuts (t .memory .image) (t .memory .state) (t .memory .log) tape (t .start) predicted (Kept k) st′ start′ image′ predicted′
       → (image′ ≡ prediction const-persistence-chunk-size tape image h)
-      × (predicted′ ≡ prediction const-persistence-chunk-size tape image (h then cut-by tape (start + 1)))
+      × (predicted′ ≡ prediction const-persistence-chunk-size tape image (h then cut-by tape (t .start + 1)))

@@ -13,6 +13,7 @@ use Rattle.replay.specs.AsyncSpec.{committed, can-crash}
 use Rattle.cuts.specs.Packed.{are-bytes}
 use Rattle.sheet.specs.Sheet.{allows}
 use Rattle.records.specs.declared.state.State.{State}
+use Rattle.writelog.specs.Cut.{cut-number}
 use Rattle.gate.specs.Opening.{Opens}
 use Rattle.session.specs.History.{History, cut-by, _then_, replay}
 use Rattle.session.specs.Run.{Desk, seen}
@@ -30,9 +31,8 @@ pub record Session (sheet image : List ℕ) (h : History) (d : Desk) : Type 0 wh
       → {st : State} {log : List ℕ} {answer : Answer} {st′ : State} → length log ≡ log-limit → Opens x st log sheet answer st′ → answer ≡ Done
   -- "the image found is the one that replaying the history gives"
   pub image-is-the-replay : d .image ≡ committed (replay const-persistence-chunk-size image h)
-  -- and so is whatever image a power loss leaves: it is a cut by some rows, and the history goes on with it. They are bytes, such as a desk could hand to
-  -- the call.
+  -- and so is whatever image a power loss leaves: it is a cut by some table that the call accepts, and the history goes on with it
   pub found-is-the-replay : (x : List ℕ) → could-be-left d x
-      → (table : List ℕ) × are-bytes table × (x ≡ committed (replay const-persistence-chunk-size image (h then cut-by table 0)))
+      → (table : List ℕ) × are-bytes table × (cut-number (d .image) (d .state) (d .log) table ≡ 0) × (x ≡ committed (replay const-persistence-chunk-size image (h then cut-by table 0)))
   -- and so are the writes that a flush or cut would settle next
   pub outstanding-are-the-replay : seen d .outstanding-writes ≡ replay const-persistence-chunk-size image h .outstanding-writes
