@@ -6,11 +6,16 @@ use mathlib.Core.Path.{_≡_, refl, sym, ap, _∙_}
 use mathlib.Core.Logic.{_↔_}
 use mathlib.Core.List.{List}
 use lib.ListN.{length}
+use Rattle.region.specs.Limits.{const-persistence-chunk-size}
 use Rattle.region.specs.Answer.{answer-number, refusal-number}
 use Rattle.region.specs.declared.Refusal.{Refusal}
 use Rattle.region.specs.declared.Refusal.the-variants.{BadState, OutOfRange, TooManyWrites, TooManyBytes, BadSheet, BrokenImage, TooManyPoints, BadRows, BadTape, NotPredicted, TooManyRounds}
+use Rattle.verdict.specs.Search.{least-bad}
+use Rattle.verdict.specs.Gate.{gate-numbers}
+use Rattle.sheet.specs.Sheet.{allows}
+use Rattle.records.specs.State.{view}
 use Rattle.gate.specs.Judgement.{denied-number, verdict-report}
-use Rattle.gate.specs.Meaning.{Means, Openable}
+use Rattle.gate.specs.Meaning.{Fits, image-of, Means, Openable}
 use Rattle.gate.specs.declared.Verdict.{Verdict}
 use Rattle.gate.specs.declared.Verdict.the-variants.{Admitted, Denied, Refused}
 use Rattle.gate.proofs.Gives.{opens-means}
@@ -51,13 +56,22 @@ module _ (words : List ℕ) {image log sheet work : List ℕ} {addr : ℕ} {byte
   number-of : (v′ : Verdict) → v ≡ v′ → number ≡ verdict-report v′ .number
   number-of v′ is = sym same ∙ ap (λ (v : Verdict). verdict-report v .number) is
 
+  first : (m : ℕ)
+      → ((number ≡ denied-number) × (report′ ≡ m))
+      ↔ (Fits image (state-of words) log sheet work addr bytes
+      × least-bad (λ k. allows sheet (image-of (view image (state-of words) log) addr bytes k)) (gate-numbers const-persistence-chunk-size (view image (state-of words) log) addr bytes) m)
+  first m = (
+    λ (eight, is). means .names-the-first m .0 (denied eight ∙ ap Denied is),
+    λ bad. let is = means .names-the-first m .1 bad in (number-of (Denied m) is, sym told ∙ ap (λ (v : Verdict). reported (verdict-report v) report) is),
+  )
+
   by-number : MeansByNumber words image log sheet work addr bytes number work′ report′
   by-number =
       record {
         admits = (λ none. means .admits .0 (report′, admitted none), λ all. let (n, is) = means .admits .1 all in number-of (Admitted n) is);
         by-part-writes = (λ none. means .by-part-writes .0 (report′, admitted none), λ all. let (n, is) = means .by-part-writes .1 all in number-of (Admitted n) is);
         denies = (λ eight. means .denies .0 (report′, denied eight), λ some. let (m, is) = means .denies .1 some in number-of (Denied m) is);
-        names-the-first = λ eight. means .names-the-first report′ .0 (denied eight) .1;
+        names-the-first = first;
         admitted-leaves = λ none. means .admitted-leaves report′ (admitted none);
         denied-leaves = λ eight. means .denied-leaves report′ (denied eight);
       }

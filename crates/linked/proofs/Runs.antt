@@ -6,13 +6,13 @@ use native.Mathlib.Omega.{arith}
 use mathlib.Core.Path.{_≡_, refl, sym, ap, subst, _∙_}
 use mathlib.Core.List.{List}
 use lib.ListN.{length}
-use Rattle.region.specs.Limits.{const-persistence-chunk-size, log-limit}
+use Rattle.region.specs.Limits.{log-limit}
 use Rattle.region.specs.Answer.{answer-number}
 use Rattle.region.specs.declared.Answer.{Answer}
 use Rattle.region.specs.declared.Answer.the-variants as answer
 use Rattle.region.specs.declared.Refusal.{Refusal}
 use Rattle.region.proofs.AnswerLaws.{answers-by-number, refusal-not-done, done-changed, refused-left}
-use Rattle.replay.specs.AsyncSpec.{can-crash}
+use Rattle.cuts.specs.Packed.{are-bytes}
 use Rattle.writelog.specs.Cut.{cut-report}
 use Rattle.writelog.specs.declared.cut.CutAnswer.{CutAnswer}
 use Rattle.writelog.specs.declared.cut.CutAnswer.the-variants as cut-answer
@@ -20,16 +20,17 @@ use Rattle.gate.specs.Opening.{open-number, Opens}
 use Rattle.gate.specs.Judgement.{verdict-report, Judges}
 use Rattle.gate.specs.declared.Verdict.{Verdict}
 use Rattle.gate.specs.declared.Verdict.the-variants as verdict
-use Rattle.session.specs.History.{Event, nothing, History, if-answered, if-admitted, if-cut}
-use Rattle.session.specs.Run.{Desk, seen, Step, Run}
+use Rattle.session.specs.History.{Event, nothing, cut-by, reopened, History, opening, _then_, if-answered, if-admitted, if-cut}
+use Rattle.session.specs.Run.{Desk, Step, Run, throughout}
 use Rattle.session.specs.Run as run
-use Rattle.session.specs.Theorem.{Session}
-use Rattle.session.proofs.Theorem.{session}
+use Rattle.session.specs.Theorem.{could-be-left, Session}
+use Rattle.session.proofs.Theorem.{power-loss-cuts, session, session-throughout}
 use Rattle.words.specs.Words.{state-words, state-of}
 use Rattle.linked.specs.Gate.{SkaldriftOpen, SkaldriftJudge}
+use Rattle.linked.proofs.LogLaws.{cut-right}
 use Rattle.linked.proofs.Promises.{done-sized, sized-after-open, sized-after-write, sized-after-gate, sized-after-flush, sized-after-cut, linked-open, linked-write, linked-read, linked-flush, linked-cut, linked-judge, linked-gate}
 use Rattle.linked.proofs.TapePromises.{sized-after-tape-write, sized-after-tape-flush, sized-after-tape-cut, linked-tape-write, linked-tape-flush, linked-tape-cut}
-use Rattle.linked.specs.Calls.{Lent, desk-of, if-0, Call, gate, judge, judged-write, judged-tape-write, refused-write, refused-tape-write, flush, tape-flush, cut, tape-cut, reopen, restart, read, Calls, opened, _and_}
+use Rattle.linked.specs.Calls.{Lent, lent, desk-of, if-0, Call, gate, judge, judged-write, judged-tape-write, refused-write, refused-tape-write, flush, tape-flush, cut, tape-cut, reopen, restart, read, Calls, opened, _and_}
 
 -- the event goes by the number
 pub answer-event : (a : Answer) (e : Event) {n : ℕ} → answer-number a ≡ n → if-answered a e ≡ if-0 n e
@@ -77,6 +78,13 @@ admits {words = words} sized p =
     let (v, same, told, j) = linked-judge words sized p in
     let (n, is) = admitted-of v same in
     (n, rw is at j)
+
+-- after a session the next skaldrift_open, handed 65 words and a log buffer of its size, answers 0 over any image that a cut could leave
+pub opening-answers-0 : {sheet image : List ℕ} {h : History} {d : Desk} → Session sheet image h d → (x : List ℕ) → could-be-left d x
+    → {words log words′ : List ℕ} {number : ℕ} → length words ≡ state-words → length log ≡ log-limit → SkaldriftOpen words x log sheet number words′ → number ≡ 0
+opening-answers-0 s x left {words} sized buffer p =
+    let (a, same, o) = linked-open words sized p in
+    sym same ∙ ap answer-number (s .next-opening-done x left buffer o)
 
 module _ (sheet : List ℕ) where
   renamed : {d d′ : Desk} {e e′ : Event} → e ≡ e′ → Step sheet d e d′ → Step sheet d e′ d′
@@ -131,9 +139,26 @@ module _ (sheet : List ℕ) where
     pub linked-session : {h : History} {m : Lent} → Calls sheet image h m → Session sheet image h (desk-of m)
     linked-session calls = session sheet image (linked-run calls)
 
-    -- and the next skaldrift_open, handed 65 words and a log buffer of its size, answers 0 over any image that a cut could leave
-    pub linked-next-opening : {h : History} {m : Lent} → Calls sheet image h m → (x : List ℕ) → can-crash const-persistence-chunk-size (seen (desk-of m)) x
-        → {words log : List ℕ} {number : ℕ} {words′ : List ℕ} → length words ≡ state-words → length log ≡ log-limit → SkaldriftOpen words x log sheet number words′ → number ≡ 0
-    linked-next-opening calls x left {words} sized buffer p =
-        let (a, same, o) = linked-open words sized p in
-        sym same ∙ ap answer-number (linked-session calls .next-opening-done x left buffer o)
+    -- at every prefix too
+    pub linked-session-throughout : {h : History} {m : Lent} (calls : Calls sheet image h m) → throughout sheet (Session sheet image) (linked-run calls)
+    linked-session-throughout calls = session-throughout sheet image (linked-run calls)
+
+    module _ {h : History} {m : Lent} (calls : Calls sheet image h m) (x : List ℕ) (left : could-be-left (desk-of m) x) {words log words′ : List ℕ} {number : ℕ}
+        (sized : length words ≡ state-words) (buffer : length log ≡ log-limit) (p : SkaldriftOpen words x log sheet number words′) where
+      -- the next opening is answered 0, over any image that a cut could leave,
+      pub linked-next-opening : number ≡ 0
+      linked-next-opening = opening-answers-0 (linked-session calls) x left sized buffer p
+
+      reopens : SkaldriftOpen words x log sheet 0 words′
+      reopens = subst (λ (n : ℕ). SkaldriftOpen words x log sheet n words′) linked-next-opening p
+
+      -- and goes on with the history: a cut by some table, and a reopening over other memory.
+      pub linked-power-loss-goes-on : (table : List ℕ) × are-bytes table × Calls sheet image (h then cut-by table 0 then reopened) (lent x words′ log)
+      linked-power-loss-goes-on =
+          let lost = power-loss-cuts sheet image (linked-run calls) x left in
+          let loses = cut (cut-right (m .words) (m .image) (m .log) (lost .0) 0 (linked-words calls) refl (lost .2) refl refl refl) in
+          (lost .0, lost .1, calls and loses and restart reopens)
+
+      -- It begins a run of its own too: what the original assumes as `held_before_crash`.
+      pub linked-held-before-crash : Calls sheet x opening (lent x words′ log)
+      linked-held-before-crash = opened reopens

@@ -3,28 +3,29 @@ use Prim.Native.Nat.{ℕ, _+_}
 use mathlib.Core.Path.{_≡_, subst}
 use mathlib.Core.List.{List}
 use lib.ListN.{length}
-use Rattle.region.specs.Limits.{const-persistence-chunk-size}
+use Rattle.region.specs.Limits.{const-persistence-chunk-size, log-limit}
 use Rattle.session.specs.History.{Event, written, flushed, cut-by, History, _then_}
-use Rattle.session.specs.Run.{Desk}
-use Rattle.session.specs.TapeRun.{TapeStep, TapeRun}
+use Rattle.session.specs.Theorem.{could-be-left}
+use Rattle.session.specs.TapeRun.{TapeDesk, TapeStep, TapeRun, tape-throughout}
 use Rattle.session.specs.TapeRun as run
 use Rattle.session.specs.TapeTheorem.{prediction, TapeSession}
-use Rattle.session.proofs.TapeTheorem.{tape-session}
+use Rattle.session.proofs.TapeTheorem.{tape-session, tape-session-throughout}
 use Rattle.words.specs.Words.{state-words}
+use Rattle.linked.specs.Gate.{SkaldriftOpen}
 use Rattle.linked.specs.Tape.{SkaldriftTapeWrite, SkaldriftTapeFlush, SkaldriftTapeCut}
 use Rattle.linked.proofs.Promises.{sized-after-open, linked-open}
 use Rattle.linked.proofs.TapePromises.{sized-after-tape-write, sized-after-tape-flush, sized-after-tape-cut, linked-tape-write, linked-tape-flush, linked-tape-cut}
 use Rattle.linked.specs.Calls.{Lent, desk-of}
-use Rattle.linked.proofs.Runs.{answer-event, cut-event, done-of, kept-of, opens, admits, call-is-a-step}
-use Rattle.linked.specs.TapeCalls.{TapeCall, judged-write, flush, cut, reopen, restart, other, TapeCalls, opened, _and_}
+use Rattle.linked.proofs.Runs.{answer-event, cut-event, done-of, kept-of, opens, admits, call-is-a-step, opening-answers-0}
+use Rattle.linked.specs.TapeCalls.{TapeLent, tape-desk-of, TapeCall, judged-write, flush, cut, reopen, restart, other, TapeCalls, opened, _and_}
 
 module _ (sheet tape : List ℕ) where
-  renamed : {d d′ : Desk} {start start′ : ℕ} {e e′ : Event} → e ≡ e′ → TapeStep sheet tape d start e d′ start′ → TapeStep sheet tape d start e′ d′ start′
-  renamed {d} {d′} {start} {start′} same s = subst (λ (e : Event). TapeStep sheet tape d start e d′ start′) same s
+  renamed : {t t′ : TapeDesk} {e e′ : Event} → e ≡ e′ → TapeStep sheet tape t e t′ → TapeStep sheet tape t e′ t′
+  renamed {t} {t′} same s = subst (λ (e : Event). TapeStep sheet tape t e t′) same s
 
   -- each call leaves 65 words again, and is a step of the library
-  pub tape-call-is-a-step : {m : Lent} {start : ℕ} {e : Event} {m′ : Lent} {start′ : ℕ} → length (m .words) ≡ state-words → TapeCall sheet tape m start e m′ start′
-      → (length (m′ .words) ≡ state-words) × TapeStep sheet tape (desk-of m) start e (desk-of m′) start′
+  pub tape-call-is-a-step : {t : TapeLent} {e : Event} {t′ : TapeLent} → length (t .memory .words) ≡ state-words → TapeCall sheet tape t e t′
+      → (length (t′ .memory .words) ≡ state-words) × TapeStep sheet tape (tape-desk-of t) e (tape-desk-of t′)
   tape-call-is-a-step sized (judged-write {words = words} j p) =
       let (a, same, w) = linked-tape-write words sized p in
       (sized-after-tape-write words sized p, renamed (answer-event a _ same) (run.judged-write (admits sized j .1) w))
@@ -41,22 +42,37 @@ module _ (sheet tape : List ℕ) where
   tape-call-is-a-step sized (other c) = let (again, s) = call-is-a-step sheet sized c in (again, run.other s)
 
   module _ (image : List ℕ) where
-    linked-both : {h : History} {m : Lent} {start : ℕ} → TapeCalls sheet tape image h m start → (length (m .words) ≡ state-words) × TapeRun sheet tape image h (desk-of m) start
+    linked-both : {h : History} {t : TapeLent} → TapeCalls sheet tape image h t → (length (t .memory .words) ≡ state-words) × TapeRun sheet tape image h (tape-desk-of t)
     linked-both (opened p) = let (sized, o) = opens p in (sized, run.opened o)
     linked-both (calls and c) =
         let (sized, r) = linked-both calls in
         let (again, s) = tape-call-is-a-step sized c in
         (again, run._and_ r s)
 
-    pub linked-tape-run : {h : History} {m : Lent} {start : ℕ} → TapeCalls sheet tape image h m start → TapeRun sheet tape image h (desk-of m) start
+    pub linked-tape-run : {h : History} {t : TapeLent} → TapeCalls sheet tape image h t → TapeRun sheet tape image h (tape-desk-of t)
     linked-tape-run calls = linked-both calls .1
 
-    -- the image predicted at each step is the replay with the tape's choices
-    pub linked-tape-session : {h : History} {m : Lent} {start : ℕ} → TapeCalls sheet tape image h m start → TapeSession sheet tape image h (desk-of m) start
+    -- the image predicted at each step is the replay with the tape's choices, at every prefix too
+    pub linked-tape-session : {h : History} {t : TapeLent} → TapeCalls sheet tape image h t → TapeSession sheet tape image h (tape-desk-of t)
     linked-tape-session calls = tape-session sheet tape (linked-tape-run calls)
 
+    pub linked-tape-session-throughout : {h : History} {t : TapeLent} (calls : TapeCalls sheet tape image h t)
+        → tape-throughout sheet tape (TapeSession sheet tape image) (linked-tape-run calls)
+    linked-tape-session-throughout calls = tape-session-throughout sheet tape (linked-tape-run calls)
+
+    -- the next opening is answered 0, whatever of the outstanding writes was lost
+    pub linked-tape-next-opening : {h : History} {t : TapeLent} → TapeCalls sheet tape image h t → (x : List ℕ) → could-be-left (desk-of (t .memory)) x
+        → {words log words′ : List ℕ} {number : ℕ} → length words ≡ state-words → length log ≡ log-limit → SkaldriftOpen words x log sheet number words′ → number ≡ 0
+    linked-tape-next-opening calls = opening-answers-0 (linked-tape-session calls .session)
+
     -- and what the next function by tape leaves, where it answers 0, is the prediction
-    module _ {h : History} {m : Lent} {start : ℕ} (calls : TapeCalls sheet tape image h m start) where
+    module _ {h : History} {t : TapeLent} (calls : TapeCalls sheet tape image h t) where
+      abbrev m : Lent
+      m = t .memory
+
+      abbrev start : ℕ
+      start = t .start
+
       sized : length (m .words) ≡ state-words
       sized = linked-both calls .0
 

@@ -1,4 +1,5 @@
 -- Demand 2 for a desk that links the functions: gate's `Means`, by the number that skaldrift_judge or skaldrift_gate answers and by what `report` holds afterwards.
+-- It is said of 65 words; any other number of them is answered with 1.
 use Prim.Native.Nat.{ℕ}
 use mathlib.Core.Path.{_≡_}
 use mathlib.Core.Logic.{_↔_}
@@ -23,7 +24,8 @@ pub record MeansByNumber (words image log sheet work : List ℕ) (addr : ℕ) (b
       × ((b a : List ℕ) → can-crash const-persistence-chunk-size (view image (state-of words) log) b → can-result-from-partial-write const-persistence-chunk-size a b addr bytes → allows sheet a ≡ true))
   pub denies : (number ≡ denied-number)
       ↔ (Fits image (state-of words) log sheet work addr bytes × ((x : List ℕ) × could-leave (view image (state-of words) log) addr bytes x × (allows sheet x ≡ false)))
-  pub names-the-first : number ≡ denied-number
-      → least-bad (λ k. allows sheet (image-of (view image (state-of words) log) addr bytes k)) (gate-numbers const-persistence-chunk-size (view image (state-of words) log) addr bytes) report′
+  pub names-the-first : (m : ℕ)
+      → ((number ≡ denied-number) × (report′ ≡ m))
+      ↔ (Fits image (state-of words) log sheet work addr bytes × least-bad (λ k. allows sheet (image-of (view image (state-of words) log) addr bytes k)) (gate-numbers const-persistence-chunk-size (view image (state-of words) log) addr bytes) m)
   pub admitted-leaves : number ≡ 0 → (report′ ≡ gate-points image (state-of words) log addr bytes) × (work′ ≡ readable (write (view image (state-of words) log) addr bytes))
   pub denied-leaves : number ≡ denied-number → work′ ≡ image-of (view image (state-of words) log) addr bytes report′
