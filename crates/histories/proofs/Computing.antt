@@ -17,8 +17,8 @@ use Rattle.tape.specs.Epoch.{epoch-number}
 use Rattle.tape.specs.Write.{tape-room-number, tape-write-number}
 use Rattle.tape.specs.Ending.{ending-number}
 use Rattle.session.specs.History.{happen, replay}
-use Rattle.session.specs.TapeTheorem.{tell, replay-by-tape}
+use Rattle.session.specs.TapeTheorem.{tell, replay-by-tape, filled}
 
 unfoldable pub everything : Type 0
-unfolding tab tab-from update-bytes apply-write-selective flush-writes flush-writes-selective touched points row-of rows-of row-at rows-at set-bits row-filled rows-filled kept kept-of verdict verdict-from clause-holds empty-holds join holds field read-field read-tagged read-entry read-members read-rest read-rule read-edition filling read-filling read-whole read-sheet well-formed obeys together writes-of records-inside sound write-number flush-number cut-number open-number judgement epoch-number tape-room-number tape-write-number ending-number happen replay tell replay-by-tape
+unfolding tab tab-from update-bytes apply-write-selective flush-writes flush-writes-selective touched points row-of rows-of row-at rows-at set-bits row-filled rows-filled kept kept-of verdict verdict-from clause-holds empty-holds join holds field read-field read-tagged read-entry read-members read-rest read-rule read-edition filling read-filling read-whole read-sheet well-formed obeys together writes-of records-inside sound write-number flush-number cut-number open-number judgement epoch-number tape-room-number tape-write-number ending-number happen replay tell replay-by-tape filled
 everything = record {}

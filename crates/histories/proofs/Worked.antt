@@ -22,8 +22,8 @@ use Rattle.session.specs.History.{nothing, written, cut-by, reopened, History, 
 use Rattle.session.specs.Run as run
 use Rattle.session.specs.Run.{desk, Run}
 use Rattle.session.specs.Theorem.{Session}
-use Rattle.session.specs.TapeRun as by-tape
-use Rattle.session.specs.TapeRun.{TapeRun}
+use Rattle.session.specs.TapeRun as tape-run
+use Rattle.session.specs.TapeRun.{by-tape, TapeRun}
 use Rattle.session.specs.TapeTheorem.{TapeSession, prediction}
 use Rattle.histories.proofs.Computing.{everything}
 use Rattle.session.proofs.Theorem.{session}
@@ -128,10 +128,10 @@ the-replay = refl
 abbrev the-tape-history : History
 the-tape-history = opening then written 8 cc then cut-by tape 1
 
-the-tape-run : TapeRun eight-is-nine tape image-aa the-tape-history (desk image-cc (emptied one-write) log-cc) 2
-the-tape-run = by-tape._and_ (by-tape._and_ (by-tape.opened the-reopening) (by-tape.judged-write the-verdict the-tape-write)) (by-tape.cut the-tape-cut)
+the-tape-run : TapeRun eight-is-nine tape image-aa the-tape-history (by-tape (desk image-cc (emptied one-write) log-cc) 2 image-cc)
+the-tape-run = tape-run._and_ (tape-run._and_ (tape-run.opened the-reopening) (tape-run.judged-write the-verdict the-tape-write)) (tape-run.cut the-tape-cut)
 
-pub the-tape-session : TapeSession eight-is-nine tape image-aa the-tape-history (desk image-cc (emptied one-write) log-cc) 2
+pub the-tape-session : TapeSession eight-is-nine tape image-aa the-tape-history (by-tape (desk image-cc (emptied one-write) log-cc) 2 image-cc)
 the-tape-session = tape-session eight-is-nine tape the-tape-run
 
 pub the-prediction : prediction const-persistence-chunk-size tape image-aa (opening then written 8 cc) ≡ image-cc
