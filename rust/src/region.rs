@@ -304,12 +304,12 @@ impl<'a> Region<'a> {
     /// The same table by a tape of cut choices fixed beforehand, whose epoch starts at byte `start` (0 at first).
     /// Writes that are outstanding already are the epoch's first, and have its first rows.
     pub fn by_tape<'r>(&'r mut self, tape: &'r [u8], start: u64) -> ByTape<'r, 'a> {
-        let predicted = self.image.to_vec();
         ByTape {
+            filled: self.outstanding() == 0,
+            predicted: self.image.to_vec(),
             region: self,
             tape,
             start,
-            predicted,
         }
     }
 }
@@ -332,6 +332,7 @@ pub struct ByTape<'r, 'a> {
     tape: &'r [u8],
     start: u64,
     predicted: Vec<u8>,
+    filled: bool,
 }
 
 impl<'a> ByTape<'_, 'a> {
@@ -345,9 +346,10 @@ impl<'a> ByTape<'_, 'a> {
         self.start
     }
 
-    /// The predicted image, as the last accepted write, flush or cut by tape left it; before the first, the image.
-    pub fn predicted(&self) -> &[u8] {
-        &self.predicted
+    /// The predicted image, as the last accepted write, flush or cut by tape left it. Before the first it is the image,
+    /// and `None` if writes were outstanding already: only an accepted call reads what the tape says of them.
+    pub fn predicted(&self) -> Option<&[u8]> {
+        self.filled.then_some(&self.predicted[..])
     }
 
     /// [`Region::read`], which uses no tape.
@@ -383,6 +385,7 @@ impl<'a> ByTape<'_, 'a> {
             addr as u64,
             data,
         ))?;
+        self.filled = true;
         Ok(&self.predicted)
     }
 
@@ -396,7 +399,9 @@ impl<'a> ByTape<'_, 'a> {
             self.tape,
             &mut self.start,
             &mut self.predicted,
-        ))
+        ))?;
+        self.filled = true;
+        Ok(())
     }
 
     /// A cut where the tape foretells one: what it keeps stands on the tape. Answers how many choice points were
@@ -412,6 +417,7 @@ impl<'a> ByTape<'_, 'a> {
             &mut self.predicted,
             &mut report,
         ))?;
+        self.filled = true;
         Ok(report)
     }
 }

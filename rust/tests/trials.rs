@@ -56,7 +56,7 @@ fn the_tape_predicts() {
     assert_eq!(by_tape.cut(), Ok(2));
     assert_eq!(by_tape.start(), 3);
     assert_eq!(by_tape.write(0, &[1]), Err(Refusal::BadTape));
-    assert_eq!(by_tape.predicted()[6..10], [0x11, 0x22, 0xBB, 0x00]);
+    assert_eq!(by_tape.predicted().unwrap()[6..10], [0x11, 0x22, 0xBB, 0x00]);
     assert_eq!(table.image()[6..10], [0x11, 0x22, 0xBB, 0x00]);
 
     let mut table = Region::open(vec![0; 16], &ALWAYS).unwrap();
@@ -64,10 +64,24 @@ fn the_tape_predicts() {
     let mut by_tape = table.by_tape(&tape, 0);
     by_tape.write(6, &[0x11, 0x22, 0x33, 0x44]).unwrap();
     by_tape.write(7, &[0xAA, 0xBB]).unwrap();
-    assert_eq!(by_tape.predicted()[6..10], [0x11, 0xAA, 0xBB, 0x44]);
+    assert_eq!(by_tape.predicted().unwrap()[6..10], [0x11, 0xAA, 0xBB, 0x44]);
     assert_eq!(by_tape.cut(), Err(Refusal::NotPredicted));
     assert_eq!(by_tape.flush(), Ok(()));
     assert_eq!(by_tape.start(), 3);
+}
+
+/// Of writes that went past the tape nothing is predicted, until a call by tape has read their rows.
+#[test]
+fn writes_before_the_tape() {
+    let mut table = Region::open(vec![0; 16], &ALWAYS).unwrap();
+    table.write(0, &[0x11]).unwrap();
+    let tape = [0x00, 0x80, 0x00];
+    let mut by_tape = table.by_tape(&tape, 0);
+    assert_eq!(by_tape.predicted(), None);
+    assert_eq!(by_tape.flush(), Err(Refusal::NotPredicted));
+    assert_eq!(by_tape.predicted(), None);
+    by_tape.write(1, &[0x22]).unwrap();
+    assert_eq!(by_tape.predicted().unwrap()[..2], [0x11, 0x00]);
 }
 
 /// A session by tape needs nothing that goes past the tape: it judges, writes, reads, ends the epoch, and opens again
@@ -90,7 +104,7 @@ fn a_session_by_tape() {
     assert_eq!(by_tape.flush(), Ok(()));
     assert_eq!(by_tape.reopen(), Ok(()));
     assert_eq!(by_tape.start(), 2);
-    assert_eq!(by_tape.predicted(), by_tape.region().image());
+    assert_eq!(by_tape.predicted(), Some(by_tape.region().image()));
     assert!(matches!(
         by_tape.judge(9, &[0xBB]),
         Verdict::Denied { choice: 1, .. }

@@ -1,6 +1,6 @@
--- `main_first_time` of power_sound_t.rs, which promises nothing: the example's run is a session under its own sheet. Its opening, and in each round its
--- four admitted writes and two flushes, are steps of a `Run` that ends with the image and the log buffer that `Runs` promises; so what the session
--- theorem says holds after every one of these calls. Assumes nothing.
+-- `main_first_time` of power_sound_t.rs, which promises nothing: a session under the example's sheet has the example's history, an opening and in each round
+-- four admitted writes and two flushes, and ends with the image and the log buffer that `Runs` promises; so what the session theorem says holds after
+-- every one of these calls. That `run` makes just these calls is its text. Assumes nothing.
 use Prim.Native.Nat.{ℕ, zero, suc, _+_, _^_, _<_}
 use native.Mathlib.Nat.{suc-ne-zero}
 use native.Mathlib.Numerals.{add-one}
