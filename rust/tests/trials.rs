@@ -56,7 +56,10 @@ fn the_tape_predicts() {
     assert_eq!(by_tape.cut(), Ok(2));
     assert_eq!(by_tape.start(), 3);
     assert_eq!(by_tape.write(0, &[1]), Err(Refusal::BadTape));
-    assert_eq!(by_tape.predicted().unwrap()[6..10], [0x11, 0x22, 0xBB, 0x00]);
+    assert_eq!(
+        by_tape.predicted().unwrap()[6..10],
+        [0x11, 0x22, 0xBB, 0x00]
+    );
     assert_eq!(table.image()[6..10], [0x11, 0x22, 0xBB, 0x00]);
 
     let mut table = Region::open(vec![0; 16], &ALWAYS).unwrap();
@@ -64,7 +67,10 @@ fn the_tape_predicts() {
     let mut by_tape = table.by_tape(&tape, 0);
     by_tape.write(6, &[0x11, 0x22, 0x33, 0x44]).unwrap();
     by_tape.write(7, &[0xAA, 0xBB]).unwrap();
-    assert_eq!(by_tape.predicted().unwrap()[6..10], [0x11, 0xAA, 0xBB, 0x44]);
+    assert_eq!(
+        by_tape.predicted().unwrap()[6..10],
+        [0x11, 0xAA, 0xBB, 0x44]
+    );
     assert_eq!(by_tape.cut(), Err(Refusal::NotPredicted));
     assert_eq!(by_tape.flush(), Ok(()));
     assert_eq!(by_tape.start(), 3);
