@@ -34,6 +34,12 @@ pub all-true-keeps-all : (C K : ℕ) (ws : List Write) (rows : List (List Bool))
     → ((j c : ℕ) → j < length ws → c < K → row-bit-at rows j c ≡ true) → keeps-all C K ws rows
 all-true-keeps-all C K ws rows t j c h k = t j c (touching-write-is-logged C ws j c k) h
 
+-- one write more has the points above those of the log
+pub points-of-one-more : (C : ℕ) (ws : List Write) (w : Write) → points C (ws ++ (w ∷ [])) ≡ points C ws + touched C (w .addr) (length (w .bytes))
+unfolding points
+points-of-one-more C [] w = add-zero _ ∙ sym (zero-add _)
+points-of-one-more C (x ∷ ws) w = ap (λ p. touched C (x .addr) (length (x .bytes)) + p) (points-of-one-more C ws w) ∙ sym (add-assoc _ (points C ws) _)
+
 module _ (C K : ℕ) where
   -- bit c of row j: the chunk is touched, and its point is kept. The points before it are those of the writes before and of the chunks below.
   pub bit-of-choice : (ws : List Write) (m j c : ℕ) → c < K
@@ -61,12 +67,6 @@ module _ (C K : ℕ) where
       width [] m j h = absurd (not-suc-le-zero h)
       width (w ∷ ws) m zero h = length-tab _ K
       width (w ∷ ws) m (suc j) h = width ws (m / 2 ^ touched C (w .addr) (length (w .bytes))) j (le-of-suc-le-suc h)
-
-  -- one write more has the points above those of the log
-  pub points-of-one-more : (ws : List Write) (w : Write) → points C (ws ++ (w ∷ [])) ≡ points C ws + touched C (w .addr) (length (w .bytes))
-  unfolding points
-  points-of-one-more [] w = add-zero _ ∙ sym (zero-add _)
-  points-of-one-more (x ∷ ws) w = ap (λ p. touched C (x .addr) (length (x .bytes)) + p) (points-of-one-more ws w) ∙ sym (add-assoc _ (points C ws) _)
 
   pub rows-of-one-more : (ws : List Write) (w : Write) (m : ℕ) → rows-of C K (ws ++ (w ∷ [])) m ≡ rows-of C K ws m ++ (row-of C K w (m / 2 ^ points C ws) ∷ [])
   unfolding rows-of points

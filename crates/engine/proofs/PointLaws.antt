@@ -45,11 +45,11 @@ pub piece-length : (at n : ℕ) (log : List ℕ) → at + n ≤ length log → l
 piece-length at n log h = ap (λ (k : ℕ). length (take k (drop at log))) (add-sub-cancel-left at n) ∙ length-take-le n (drop at log) (omega (arith, length-drop at log))
 
 -- the points of the oldest remaining write, and of those after it
-pub points-more : (L : ℕ) (st : State) (n at left : ℕ) → Remaining L st n at left → 0 < left
+pub points-more : {L : ℕ} {st : State} {n at left : ℕ} → Remaining L st n at left → 0 < left
     → record-points const-persistence-chunk-size (last-records st left)
     ≡ touched const-persistence-chunk-size (oldest st left .addr) (oldest st left .len) + record-points const-persistence-chunk-size (last-records st (left - 1))
 unfolding record-points
-points-more L st n at left r p =
+points-more {st = st} {left = left} r p =
     let follow : st .count - left + 1 ≡ st .count - (left - 1) = omega (arith, r .some) in
     ap (record-points const-persistence-chunk-size) (next-and-rest st (st .count - left) (omega (arith, r .some)) (omega (arith, r .sized, r .few)))
     ∙ ap (λ (k : ℕ). touched const-persistence-chunk-size (oldest st left .addr) (oldest st left .len) + record-points const-persistence-chunk-size (drop k (log-records st))) follow
@@ -69,5 +69,5 @@ pub points-with-a-write : (image : List ℕ) (st : State) (log : List ℕ) (addr
     → choice-points const-persistence-chunk-size (write (view image st log) addr bytes) ≡ record-points const-persistence-chunk-size (log-records st) + touched const-persistence-chunk-size addr (length bytes)
 points-with-a-write image st log addr bytes good =
     let facts = sound-facts (length image) st (length log) good in
-    points-of-one-more const-persistence-chunk-size 0 (view image st log .outstanding-writes) (new-write addr bytes)
+    points-of-one-more const-persistence-chunk-size (view image st log .outstanding-writes) (new-write addr bytes)
     ∙ ap (λ (k : ℕ). k + touched const-persistence-chunk-size addr (length bytes)) (points-by-records const-persistence-chunk-size (log-records st) log (omega (arith, facts .room, facts .buffer)))

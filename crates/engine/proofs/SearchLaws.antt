@@ -9,7 +9,7 @@ use mathlib.Core.Bool.{Bool, true, false}
 use mathlib.Core.List.{List}
 use lib.Dec.{lit<}
 use lib.ListN.{length}
-use lib.Pow.{shl-exact}
+use lib.Pow.{shl-exact, pow-pos}
 use Rattle.region.specs.Limits.{points-limit, const-persistence-chunk-size}
 use Rattle.replay.specs.AsyncSpec.{AsyncView, write}
 use Rattle.cuts.specs.Number.{choice-image, choice-points}
@@ -34,55 +34,63 @@ pub ready-points : (image : List ℕ) (st : State) (log : List ℕ) (work-length
     → choice-points const-persistence-chunk-size (write (view image st log) addr bytes) ≡ n
 ready-points image st log work-length addr bytes n r = points-with-a-write image st log addr bytes (r .good) ∙ sym (r .counted)
 
-module _ (v : AsyncView) (sheet : List ℕ) (addr : ℕ) (bytes : List ℕ) (n : ℕ) where
-  abbrev pub trial-of : ℕ → List ℕ
-  trial-of m = choice-image const-persistence-chunk-size (write v addr bytes) m
+-- the image of number m
+abbrev trial-of : AsyncView → ℕ → List ℕ → ℕ → List ℕ
+trial-of v addr bytes m = choice-image const-persistence-chunk-size (write v addr bytes) m
 
-  abbrev test : ℕ → Bool
-  test = gate-test const-persistence-chunk-size (λ before after. obeys sheet before after) v addr bytes
+-- does it obey?
+abbrev test : AsyncView → List ℕ → ℕ → List ℕ → ℕ → Bool
+test v sheet addr bytes = gate-test const-persistence-chunk-size (λ before after. obeys sheet before after) v addr bytes
 
-  pub record Tried (work : List ℕ) (m : ℕ) : Type 0 where
-    pub within : m ≤ 2 ^ n
-    pub last : 0 < m → work ≡ trial-of (m - 1)
-    pub remains : verdict-from test m (2 ^ n - m) ≡ sheet-verdict sheet v addr bytes
+-- the numbers below m are tried
+pub record Tried (v : AsyncView) (sheet : List ℕ) (addr : ℕ) (bytes : List ℕ) (n : ℕ) (work : List ℕ) (m : ℕ) : Type 0 where
+  pub within : m ≤ 2 ^ n
+  pub last : 0 < m → work ≡ trial-of v addr bytes (m - 1)
+  pub remains : verdict-from (test v sheet addr bytes) m (2 ^ n - m) ≡ sheet-verdict sheet v addr bytes
 
-  module _ (counted : choice-points const-persistence-chunk-size (write v addr bytes) ≡ n) where
-    pub tried-none : (work : List ℕ) → Tried work 0
-    tried-none work =
-        record {
-          within = omega arith;
-          last = λ h. absurd (omega arith);
-          remains = ap (verdict-from test 0) (sub-zero (2 ^ n) ∙ ap (λ (k : ℕ). 2 ^ k) (sym counted)) ∙ sym (verdict-at-start test (2 ^ choice-points const-persistence-chunk-size (write v addr bytes)));
-        }
+module _ {v : AsyncView} {sheet : List ℕ} {addr : ℕ} {bytes : List ℕ} {n : ℕ} where
+  pub tried-none : {work : List ℕ} → choice-points const-persistence-chunk-size (write v addr bytes) ≡ n → Tried v sheet addr bytes n work 0
+  tried-none counted =
+      let good = test v sheet addr bytes in
+      record {
+        within = omega arith;
+        last = λ h. absurd (omega arith);
+        remains = ap (verdict-from good 0) (sub-zero (2 ^ n) ∙ ap (λ (k : ℕ). 2 ^ k) (sym counted)) ∙ sym (verdict-at-start good (2 ^ choice-points const-persistence-chunk-size (write v addr bytes)));
+      }
 
+  module _ {work : List ℕ} {m : ℕ} (t : Tried v sheet addr bytes n work m) where
     -- number m, tried after the others
-    module _ {work work′ : List ℕ} {m : ℕ} (t : Tried work m) (more : m < 2 ^ n) (here : work′ ≡ trial-of m) where
+    module _ {work′ : List ℕ} (more : m < 2 ^ n) (here : work′ ≡ trial-of v addr bytes m) where
       one-off : 2 ^ n - m ≡ suc (2 ^ n - (m + 1))
       one-off = omega arith
 
-      judged-so : {b : Bool} → obeys sheet work′ work′ ≡ b → test m ≡ b
-      judged-so e = before-unseen sheet _ work′ (trial-of m) ∙ ap (obeys sheet work′) (sym here) ∙ e
+      judged-so : {b : Bool} → obeys sheet work′ work′ ≡ b → test v sheet addr bytes m ≡ b
+      judged-so e = before-unseen sheet _ work′ (trial-of v addr bytes m) ∙ ap (obeys sheet work′) (sym here) ∙ e
 
-      pub tried-more : obeys sheet work′ work′ ≡ true → Tried work′ (m + 1)
+      pub tried-more : obeys sheet work′ work′ ≡ true → Tried v sheet addr bytes n work′ (m + 1)
       tried-more e =
+          let good = test v sheet addr bytes in
           record {
             within = omega arith;
-            last = λ h. here ∙ ap trial-of (omega arith);
-            remains = ap (λ (k : ℕ). verdict-from test k (2 ^ n - (m + 1))) (add-one m) ∙ sym (verdict-goes-on test m (2 ^ n - (m + 1)) (judged-so e)) ∙ ap (verdict-from test m) (sym one-off) ∙ t .remains;
+            last = λ h. here ∙ ap (trial-of v addr bytes) (omega arith);
+            remains = ap (λ (k : ℕ). verdict-from good k (2 ^ n - (m + 1))) (add-one m) ∙ sym (verdict-goes-on good m (2 ^ n - (m + 1)) (judged-so e)) ∙ ap (verdict-from good m) (sym one-off) ∙ t .remains;
           }
 
       pub found-bad : obeys sheet work′ work′ ≡ false → Searches v sheet addr bytes (FirstBad m) work′
       found-bad e =
-          let denied : deny m ≡ sheet-verdict sheet v addr bytes = sym (verdict-stops test m (2 ^ n - (m + 1)) (judged-so e)) ∙ ap (verdict-from test m) (sym one-off) ∙ t .remains in
+          let good = test v sheet addr bytes in
+          let denied : deny m ≡ sheet-verdict sheet v addr bytes = sym (verdict-stops good m (2 ^ n - (m + 1)) (judged-so e)) ∙ ap (verdict-from good m) (sym one-off) ∙ t .remains in
           record { answers = denied; work-after = here ∙ ap (sheet-image v addr bytes) denied }
 
     -- all numbers tried: the last one left the read image
-    pub found-none : {work : List ℕ} {m : ℕ} → Tried work m → 2 ^ n ≤ m → 0 < 2 ^ n → Searches v sheet addr bytes AllGood work
-    found-none {work} {m} t h p =
+    pub found-none : choice-points const-persistence-chunk-size (write v addr bytes) ≡ n → 2 ^ n ≤ m → Searches v sheet addr bytes AllGood work
+    found-none counted h =
+        let good = test v sheet addr bytes in
+        let some = pow-pos n in
         let all : m ≡ 2 ^ n = omega (arith, t .within) in
         let none : 2 ^ n - m ≡ 0 = omega arith in
-        let admitted : admit ≡ sheet-verdict sheet v addr bytes = sym (verdict-at-end test m) ∙ ap (verdict-from test m) (sym none) ∙ t .remains in
+        let admitted : admit ≡ sheet-verdict sheet v addr bytes = sym (verdict-at-end good m) ∙ ap (verdict-from good m) (sym none) ∙ t .remains in
         record {
           answers = admitted;
-          work-after = t .last (omega arith) ∙ ap (λ (k : ℕ). trial-of (k - 1)) (all ∙ ap (λ (k : ℕ). 2 ^ k) (sym counted)) ∙ last-trial-is-the-read-image const-persistence-chunk-size (lit< tt) v addr bytes ∙ ap (sheet-image v addr bytes) admitted;
+          work-after = t .last (omega arith) ∙ ap (λ (k : ℕ). trial-of v addr bytes (k - 1)) (all ∙ ap (λ (k : ℕ). 2 ^ k) (sym counted)) ∙ last-trial-is-the-read-image const-persistence-chunk-size (lit< tt) v addr bytes ∙ ap (sheet-image v addr bytes) admitted;
         }

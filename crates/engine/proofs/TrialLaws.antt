@@ -16,22 +16,21 @@ use Rattle.cuts.proofs.Pairs.{choice-of-a-write}
 use Rattle.records.specs.State.{log-records, view}
 use Rattle.records.specs.Log.{last-writes, Remaining}
 use Rattle.records.specs.declared.state.State.{State}
-use Rattle.records.proofs.Soundness.{Sound, sound-facts}
+use Rattle.records.proofs.Soundness.{sound-facts}
 use Rattle.records.proofs.Walk.{all-writes, all-remain}
 use Rattle.engine.specs.Count.{record-points}
 use Rattle.engine.specs.Search.{Ready}
 use Rattle.engine.proofs.PointLaws.{points-by-records}
 
+-- the whole log is left to replay
+pub log-remains : {L : ℕ} {st : State} {log-length work-length addr n points : ℕ} → Ready L st log-length work-length addr n points → Remaining L st log-length 0 (st .count)
+log-remains r = all-remain _ _ _ (r .sized) (sound-facts _ _ _ (r .good))
+
 module _ (image : List ℕ) (st : State) (log : List ℕ) (work-length addr : ℕ) (bytes : List ℕ) (n : ℕ) (r : Ready (length image) st (length log) work-length addr (length bytes) n) where
-  facts : Sound (length image) st (length log)
-  facts = sound-facts (length image) st (length log) (r .good)
-
-  pub log-remains : Remaining (length image) st (length log) 0 (st .count)
-  log-remains = all-remain (length image) st (length log) (r .sized) facts
-
   -- the points of the log alone
-  pub older-points : n - touched const-persistence-chunk-size addr (length bytes) ≡ choice-points const-persistence-chunk-size (view image st log)
+  older-points : n - touched const-persistence-chunk-size addr (length bytes) ≡ choice-points const-persistence-chunk-size (view image st log)
   older-points =
+      let facts = sound-facts (length image) st (length log) (r .good) in
       ap (λ (k : ℕ). k - touched const-persistence-chunk-size addr (length bytes)) (r .counted)
       ∙ add-sub-cancel (record-points const-persistence-chunk-size (log-records st)) (touched const-persistence-chunk-size addr (length bytes))
       ∙ sym (points-by-records const-persistence-chunk-size (log-records st) log (omega (arith, facts .room, facts .buffer)))
