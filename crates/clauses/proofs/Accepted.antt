@@ -29,7 +29,7 @@ use Rattle.gate.specs.declared.Verdict.the-variants.{Admitted, Denied, Refused}
 use Rattle.gate.specs.Meaning.{Means}
 use Rattle.gate.proofs.Meaning.{gate-means}
 use Rattle.gate.proofs.JudgementLaws.{number-0-fits}
-use Rattle.gate.proofs.Gives.{opened-holds, refused-left}
+use Rattle.gate.proofs.Gives.{opened-holds, gate-refused-left}
 use Rattle.tape.specs.Write.{tape-write-number, TapeWrites}
 use Rattle.tape.specs.Flush.{tape-flush-number, TapeFlushes}
 use Rattle.tape.specs.Cut.{tape-cut-number, TapeCuts}
@@ -129,7 +129,7 @@ work-fits-after-gate image st log sheet work addr bytes {answer} {st′} {log′
     go : (a : Verdict) → answer ≡ a → length work′ ≡ length image
     go (Admitted n) e = ap length (means .admitted-leaves n e .1) ∙ length-flush (write (view image st log) addr bytes)
     go (Denied m) e = ap length (means .denied-leaves m e) ∙ length-flush-selective const-persistence-chunk-size (write (view image st log) addr bytes) _
-    go (Refused why) e = ap length (refused-left image st log sheet work addr bytes g e .2) ∙ same
+    go (Refused why) e = ap length (gate-refused-left image st log sheet work addr bytes g e .2) ∙ same
 
 -- the predicted image keeps the image's length
 predicted-length : (tape : List ℕ) (start : ℕ) (v : AsyncView) → length (predicted-image const-persistence-chunk-size tape start v) ≡ len v

@@ -1,6 +1,6 @@
 -- A trial's three steps leave the image of its choice number: the image, the log over it by the number's lowest points, and the new write by those
 -- above. Assumes nothing.
-use Prim.Native.Nat.{ℕ, _-_, _/_, _^_, _<_}
+use Prim.Native.Nat.{ℕ, _-_, _/_, _^_}
 use native.Mathlib.Nat.{add-sub-cancel}
 use native.Mathlib.Omega.{arith}
 use mathlib.Core.Path.{_≡_, sym, ap, ap₂, _∙_}

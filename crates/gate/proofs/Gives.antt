@@ -1,7 +1,6 @@
 -- What a good opening and an admitted write give a session: a sound state of the right size, the view that the original has, and that every image
 -- which a cut could then leave obeys the sheet. Assumes nothing.
 use Prim.Native.Nat.{ℕ, _<_}
-use native.Mathlib.Omega.{arith}
 use mathlib.Core.Path.{_≡_, refl, sym, ap, ap₂, subst, subst⁻¹, _∙_}
 use mathlib.Core.Logic.{_↔_}
 use mathlib.Core.Bool.{true}
@@ -24,7 +23,7 @@ use Rattle.records.proofs.Soundness.{Sound, sound-facts, Room}
 use Rattle.writelog.proofs.WriteLaws.{write-sound}
 use Rattle.records.proofs.Views.{view-of-recorded, sound-after-recorded, sized-of-appended, view-of-emptied, sound-after-emptied}
 use Rattle.gate.specs.declared.Verdict.{Verdict}
-use Rattle.gate.specs.declared.Verdict.the-variants.{Admitted, Denied, Refused}
+use Rattle.gate.specs.declared.Verdict.the-variants.{Admitted, Refused}
 use Rattle.gate.specs.Opening.{fresh, Opens}
 use Rattle.gate.specs.Judgement.{verdict-report, judge-number, Judges, Gates}
 use Rattle.gate.specs.Meaning.{Fits, Openable}
@@ -113,15 +112,12 @@ module _ (image : List ℕ) (st : State) (log sheet work : List ℕ) (addr : ℕ
     -- any other answer leaves state and log as they were
     pub not-admitted-left : 0 < verdict-report answer .number → (st′ ≡ st) × (log′ ≡ log)
     not-admitted-left h =
-        let some = not-admitted-number image st log sheet work addr bytes (gate-judges image st log sheet work addr bytes g) h in (
+        let some = not-admitted-number (gate-judges image st log sheet work addr bytes g) h in (
           g .state-after ∙ not-done (judge-number image st log sheet work addr bytes) (appended st addr (length bytes)) st some,
           g .log-after ∙ not-done (judge-number image st log sheet work addr bytes) (update-bytes log (together (log-records st)) bytes) log some,
         )
 
-    pub denied-left : {m : ℕ} → answer ≡ Denied m → (st′ ≡ st) × (log′ ≡ log)
-    denied-left d = not-admitted-left (rw d (omega arith))
-
-    pub refused-left : {why : Refusal} → answer ≡ Refused why → (st′ ≡ st) × (log′ ≡ log) × (work′ ≡ work)
-    refused-left {why} d =
+    pub gate-refused-left : {why : Refusal} → answer ≡ Refused why → (st′ ≡ st) × (log′ ≡ log) × (work′ ≡ work)
+    gate-refused-left {why} d =
         let same = not-admitted-left (rw d (refusal-not-done why)) in
-        (same .0, same .1, refused-work image st log sheet work addr bytes (gate-judges image st log sheet work addr bytes g) d)
+        (same .0, same .1, refused-work (gate-judges image st log sheet work addr bytes g) d)

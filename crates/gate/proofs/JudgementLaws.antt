@@ -1,4 +1,4 @@
--- Which test gives a judgement its number, and what a judgement on all images tells: the write fits. Assumes nothing.
+-- What a judgement on all images tells: the write fits. Then the promises, a law for each way that the judging and the gate return. Assumes nothing.
 use Prim.Native.Nat.{ℕ, zero, suc, _+_, _≤_, _<_}
 use native.Mathlib.Nat.{suc-ne-zero}
 use native.Mathlib.Omega.{arith}
@@ -12,7 +12,7 @@ use Rattle.region.specs.Limits.{points-limit}
 use Rattle.region.specs.Answer.{Report, unless, refusal-number, if-done}
 use Rattle.region.specs.Pmemspec.{update-bytes}
 use Rattle.region.specs.declared.Refusal.{Refusal}
-use Rattle.region.specs.declared.Refusal.the-variants.{TooManyPoints}
+use Rattle.region.specs.declared.Refusal.the-variants.{BadState, BadSheet, TooManyPoints}
 use Rattle.region.proofs.AnswerLaws.{done-changed, not-done, refusal-not-done}
 use Rattle.region.proofs.Booleans.{cond-when, cond-unless, and-unless, both, both-true}
 use Rattle.verdict.specs.Search as search
@@ -60,57 +60,39 @@ nothing-reported e = suc-ne-zero 0 (sym (ap length e))
 pub one-value : {m n : ℕ} → _≡_ {A = List ℕ} (m ∷ []) (n ∷ []) → m ≡ n
 one-value e = cc
 
+-- the test of 1
+abbrev first : List ℕ → State → List ℕ → List ℕ → Bool
+first image st log work = sound (length image) st (length log) && eqb (length work) (length image)
+
+-- few enough points: all images are tried
+weighed-few : (image : List ℕ) (st : State) (log sheet : List ℕ) (addr : ℕ) (bytes : List ℕ) → gate-points image st log addr bytes ≤ points-limit
+    → weighed image st log sheet addr bytes ≡ tried (sheet-verdict sheet (view image st log) addr bytes)
+weighed-few image st log sheet addr bytes h = cond-when (leb (gate-points image st log addr bytes) points-limit) _ (refused 7) (le-leb (gate-points image st log addr bytes) points-limit h)
+
 module _ (image : List ℕ) (st : State) (log sheet work : List ℕ) (addr : ℕ) (bytes : List ℕ) where
   abbrev pub J : Judgement
   J = judgement image st log sheet work addr bytes
 
-  abbrev first : Bool
-  first = sound (length image) st (length log) && eqb (length work) (length image)
-
-  pub judgement-unsound : sound (length image) st (length log) ≡ false → J ≡ refused 1
-  unfolding judgement
-  judgement-unsound e = cond-unless first _ (refused 1) (and-unless _ _ e)
-
-  pub judgement-other-length : (length work ≡ length image → ⊥) → J ≡ refused 1
-  unfolding judgement
-  judgement-other-length n = cond-unless first _ (refused 1) (ap (λ (b : Bool). sound (length image) st (length log) && b) (ne-eqb (length work) (length image) n) ∙ and-false (sound (length image) st (length log)))
-
+  -- the tests that were passed
   module _ (good : sound (length image) st (length log) ≡ true) (same : length work ≡ length image) where
     first-passed : J ≡ unless (well-formed sheet) (refused 5) (fitted image st log sheet addr bytes)
     unfolding judgement
-    first-passed = cond-when first _ (refused 1) (both-true good (eq-eqb (length work) (length image) same))
+    first-passed = cond-when (first image st log work) _ (refused 1) (both-true good (eq-eqb (length work) (length image) same))
 
-    pub judgement-malformed : well-formed sheet ≡ false → J ≡ refused 5
-    judgement-malformed e = first-passed ∙ cond-unless (well-formed sheet) _ (refused 5) e
-
-    module _ (formed : well-formed sheet ≡ true) where
-      formed-passed : J ≡ fitted image st log sheet addr bytes
-      formed-passed = first-passed ∙ cond-when (well-formed sheet) _ (refused 5) formed
-
-      pub judgement-no-room : (why : Refusal) → room-number (length image) st addr (length bytes) ≡ refusal-number why → J ≡ refused (refusal-number why)
-      judgement-no-room why e =
-          formed-passed ∙ ap (λ (k : ℕ). if-done k (weighed image st log sheet addr bytes) (refused k)) e
-          ∙ not-done (refusal-number why) (weighed image st log sheet addr bytes) (refused (refusal-number why)) (refusal-not-done why)
-
-      pub judgement-room : room-number (length image) st addr (length bytes) ≡ 0 → J ≡ weighed image st log sheet addr bytes
-      judgement-room e = formed-passed ∙ ap (λ (k : ℕ). if-done k (weighed image st log sheet addr bytes) (refused k)) e
-
-  weighed-few : gate-points image st log addr bytes ≤ points-limit → weighed image st log sheet addr bytes ≡ tried (sheet-verdict sheet (view image st log) addr bytes)
-  weighed-few h = cond-when (leb (gate-points image st log addr bytes) points-limit) _ (refused 7) (le-leb (gate-points image st log addr bytes) points-limit h)
+    by-room : well-formed sheet ≡ true → {k : ℕ} → room-number (length image) st addr (length bytes) ≡ k → J ≡ if-done k (weighed image st log sheet addr bytes) (refused k)
+    by-room formed e = first-passed ∙ cond-when (well-formed sheet) _ (refused 5) formed ∙ ap (λ (k : ℕ). if-done k (weighed image st log sheet addr bytes) (refused k)) e
 
   pub fits-room : Fits image st log sheet work addr bytes → room-number (length image) st addr (length bytes) ≡ 0
   fits-room f = room-there (length image) st addr (length bytes) (le-leb (addr + length bytes) (length image) (f .lies)) (f .few-writes) (f .few-bytes)
 
   -- a write that fits is judged on all its images, and no other is
   pub fitting-tried : Fits image st log sheet work addr bytes → J ≡ tried (sheet-verdict sheet (view image st log) addr bytes)
-  fitting-tried f =
-      judgement-room (f .good) (f .same) (f .formed) (fits-room f)
-      ∙ weighed-few (f .few-points)
+  fitting-tried f = by-room (f .good) (f .same) (f .formed) (fits-room f) ∙ weighed-few image st log sheet addr bytes (f .few-points)
 
   pub tried-fits : (r : search.Verdict) → J ≡ tried r → Fits image st log sheet work addr bytes × (r ≡ sheet-verdict sheet (view image st log) addr bytes)
   unfolding judgement
   tried-fits r e =
-      let t = all-passed first (well-formed sheet) (room-number (length image) st addr (length bytes)) (leb (gate-points image st log addr bytes) points-limit) (sheet-verdict sheet (view image st log) addr bytes) r e in
+      let t = all-passed (first image st log work) (well-formed sheet) (room-number (length image) st addr (length bytes)) (leb (gate-points image st log addr bytes) points-limit) (sheet-verdict sheet (view image st log) addr bytes) r e in
       let t₁ = both _ _ (t .0) in
       let room = room-done (length image) st addr (length bytes) (t .2) in (
         record {
@@ -127,7 +109,7 @@ module _ (image : List ℕ) (st : State) (log sheet work : List ℕ) (addr : ℕ
 
   not-refused-0 : J ≡ refused 0 → ⊥
   unfolding judgement
-  not-refused-0 e = never-zero first (well-formed sheet) (room-number (length image) st addr (length bytes)) (leb (gate-points image st log addr bytes) points-limit) (sheet-verdict sheet (view image st log) addr bytes) e
+  not-refused-0 e = never-zero (first image st log work) (well-formed sheet) (room-number (length image) st addr (length bytes)) (leb (gate-points image st log addr bytes) points-limit) (sheet-verdict sheet (view image st log) addr bytes) e
 
   -- number 0: the write fits and is admitted
   pub number-0-fits : judge-number image st log sheet work addr bytes ≡ 0 → Fits image st log sheet work addr bytes × (sheet-verdict sheet (view image st log) addr bytes ≡ search.admit)
@@ -147,20 +129,41 @@ module _ (image : List ℕ) (st : State) (log sheet work : List ℕ) (addr : ℕ
       go (tried search.admit) e z = absurd (suc-ne-zero 7 (sym (ap (λ (r : Report). r .number) z)))
       go (tried (search.deny k)) e z = let f = tried-fits (search.deny k) e in (f .0, sym (f .1) ∙ ap search.deny (one-value (ap (λ (r : Report). r .values) z)))
 
-  -- the promises
-  pub judges-refused : (why : Refusal) → J ≡ refused (refusal-number why) → Judges image st log sheet work addr bytes (Refused why) work
-  judges-refused why e =
+  pub admitted-number : {answer : Verdict} {work′ : List ℕ} → Judges image st log sheet work addr bytes answer work′ → {n : ℕ} → answer ≡ Admitted n → judge-number image st log sheet work addr bytes ≡ 0
+  admitted-number j a = sym (ap (λ (r : Report). r .number) (j .answers)) ∙ ap (λ (v : Verdict). verdict-report v .number) a
+
+-- the promises, return by return
+module _ {image : List ℕ} {st : State} {log sheet work : List ℕ} {addr : ℕ} {bytes : List ℕ} where
+  judges-so : {j : Judgement} {answer : Verdict} {work′ : List ℕ} → J image st log sheet work addr bytes ≡ j
+      → verdict-report answer ≡ judgement-report (gate-points image st log addr bytes) j → work′ ≡ judgement-work (view image st log) addr bytes j work
+      → Judges image st log sheet work addr bytes answer work′
+  judges-so e a w =
       record {
-        answers = sym (ap (judgement-report (gate-points image st log addr bytes)) e);
-        work-after = sym (ap (λ (j : Judgement). judgement-work (view image st log) addr bytes j work) e);
+        answers = a ∙ sym (ap (judgement-report (gate-points image st log addr bytes)) e);
+        work-after = w ∙ sym (ap (λ (j : Judgement). judgement-work (view image st log) addr bytes j work) e);
       }
 
-  pub judges-weighed : J ≡ weighed image st log sheet addr bytes → {answer : Verdict} {work′ : List ℕ} → Weighs image st log sheet work addr bytes answer work′ → Judges image st log sheet work addr bytes answer work′
-  judges-weighed e w =
-      record {
-        answers = w .answers ∙ sym (ap (judgement-report (gate-points image st log addr bytes)) e);
-        work-after = w .work-after ∙ sym (ap (λ (j : Judgement). judgement-work (view image st log) addr bytes j work) e);
-      }
+  judges-refused : (why : Refusal) → J image st log sheet work addr bytes ≡ refused (refusal-number why) → Judges image st log sheet work addr bytes (Refused why) work
+  judges-refused why e = judges-so e refl refl
+
+  pub judges-unsound : sound (length image) st (length log) ≡ false → Judges image st log sheet work addr bytes (Refused BadState) work
+  unfolding judgement
+  judges-unsound e = judges-refused BadState (cond-unless (first image st log work) _ (refused 1) (and-unless _ _ e))
+
+  pub judges-other-length : (length work ≡ length image → ⊥) → Judges image st log sheet work addr bytes (Refused BadState) work
+  unfolding judgement
+  judges-other-length n = judges-refused BadState (cond-unless (first image st log work) _ (refused 1) (rw (ne-eqb (length work) (length image) n, and-false)))
+
+  module _ (good : sound (length image) st (length log) ≡ true) (same : length work ≡ length image) where
+    pub judges-malformed : well-formed sheet ≡ false → Judges image st log sheet work addr bytes (Refused BadSheet) work
+    judges-malformed e = judges-refused BadSheet (first-passed image st log sheet work addr bytes good same ∙ cond-unless (well-formed sheet) _ (refused 5) e)
+
+    pub judges-no-room : well-formed sheet ≡ true → (why : Refusal) → room-number (length image) st addr (length bytes) ≡ refusal-number why → Judges image st log sheet work addr bytes (Refused why) work
+    judges-no-room formed why e = judges-refused why (by-room image st log sheet work addr bytes good same formed e ∙ not-done (refusal-number why) _ _ (refusal-not-done why))
+
+    pub judges-weighed : well-formed sheet ≡ true → room-number (length image) st addr (length bytes) ≡ 0
+        → {answer : Verdict} {work′ : List ℕ} → Weighs image st log sheet work addr bytes answer work′ → Judges image st log sheet work addr bytes answer work′
+    judges-weighed formed e w = judges-so (by-room image st log sheet work addr bytes good same formed e) (w .answers) (w .work-after)
 
   pub weighs-many : points-limit < gate-points image st log addr bytes → Weighs image st log sheet work addr bytes (Refused TooManyPoints) work
   weighs-many h =
@@ -171,42 +174,44 @@ module _ (image : List ℕ) (st : State) (log sheet work : List ℕ) (addr : ℕ
       }
 
   module _ (few : gate-points image st log addr bytes ≤ points-limit) {outcome : Outcome} {work′ : List ℕ} (s : Searches (view image st log) sheet addr bytes outcome work′) where
-    tried-so : tried (searched outcome) ≡ weighed image st log sheet addr bytes
-    tried-so = ap tried (s .answers) ∙ sym (weighed-few few)
-
     weighs-so : (answer : Verdict) → verdict-report answer ≡ judgement-report (gate-points image st log addr bytes) (tried (searched outcome)) → Weighs image st log sheet work addr bytes answer work′
     weighs-so answer e =
+        let few-so = weighed-few image st log sheet addr bytes few in
         record {
-          answers = e ∙ ap (judgement-report (gate-points image st log addr bytes)) tried-so;
-          work-after = s .work-after ∙ ap (λ (j : Judgement). judgement-work (view image st log) addr bytes j work) (sym (weighed-few few));
+          answers = e ∙ ap (judgement-report (gate-points image st log addr bytes)) (ap tried (s .answers) ∙ sym few-so);
+          work-after = s .work-after ∙ ap (λ (j : Judgement). judgement-work (view image st log) addr bytes j work) (sym few-so);
         }
 
     pub weighs-admitted : {n : ℕ} → outcome ≡ AllGood → n ≡ gate-points image st log addr bytes → Weighs image st log sheet work addr bytes (Admitted n) work′
-    weighs-admitted {n} o e = weighs-so (Admitted n) (ap (λ (k : ℕ). verdict-report (Admitted k)) e ∙ sym (ap (λ (x : Outcome). judgement-report (gate-points image st log addr bytes) (tried (searched x))) o))
+    weighs-admitted {n} o e = weighs-so (Admitted n) (rw (o, e))
 
     pub weighs-denied : {m : ℕ} → outcome ≡ FirstBad m → Weighs image st log sheet work addr bytes (Denied m) work′
-    weighs-denied {m} o = weighs-so (Denied m) (sym (ap (λ (x : Outcome). judgement-report (gate-points image st log addr bytes) (tried (searched x))) o))
+    weighs-denied {m} o = weighs-so (Denied m) (rw o)
 
   -- what is done with a judged write
   module _ {answer : Verdict} {work′ : List ℕ} (j : Judges image st log sheet work addr bytes answer work′) where
-    number-is : verdict-report answer .number ≡ judge-number image st log sheet work addr bytes
-    number-is = ap (λ (r : Report). r .number) (j .answers)
+    pub admitted-fits : {n : ℕ} → answer ≡ Admitted n → Fits image st log sheet work addr bytes × (sheet-verdict sheet (view image st log) addr bytes ≡ search.admit)
+    admitted-fits a = number-0-fits image st log sheet work addr bytes (admitted-number image st log sheet work addr bytes j a)
+
+    pub denied-fits : {m : ℕ} → answer ≡ Denied m → Fits image st log sheet work addr bytes × (sheet-verdict sheet (view image st log) addr bytes ≡ search.deny m)
+    denied-fits {m} d = report-8-fits image st log sheet work addr bytes m (sym (j .answers) ∙ ap verdict-report d)
 
     -- a refusal judged nothing
     pub refused-work : {why : Refusal} → answer ≡ Refused why → work′ ≡ work
-    refused-work {why} a = go J refl
+    refused-work {why} a = go (J image st log sheet work addr bytes) refl
       where
-        go : (j : Judgement) → J ≡ j → work′ ≡ work
+        none-reported : {x : Judgement} → J image st log sheet work addr bytes ≡ x → [] ≡ judgement-report (gate-points image st log addr bytes) x .values
+        none-reported e = ap (λ (r : Report). r .values) (sym (ap verdict-report a) ∙ j .answers ∙ ap (judgement-report (gate-points image st log addr bytes)) e)
+
+        go : (x : Judgement) → J image st log sheet work addr bytes ≡ x → work′ ≡ work
         go (refused k) e = j .work-after ∙ ap (λ (x : Judgement). judgement-work (view image st log) addr bytes x work) e
-        go (tried search.admit) e = absurd (nothing-reported (ap (λ (r : Report). r .values) (sym (ap verdict-report a) ∙ j .answers ∙ ap (judgement-report (gate-points image st log addr bytes)) e)))
-        go (tried (search.deny m)) e = absurd (nothing-reported (ap (λ (r : Report). r .values) (sym (ap verdict-report a) ∙ j .answers ∙ ap (judgement-report (gate-points image st log addr bytes)) e)))
+        go (tried search.admit) e = absurd (nothing-reported (none-reported e))
+        go (tried (search.deny m)) e = absurd (nothing-reported (none-reported e))
 
-    pub admitted-number : {n : ℕ} → answer ≡ Admitted n → judge-number image st log sheet work addr bytes ≡ 0
-    admitted-number a = sym number-is ∙ ap (λ (v : Verdict). verdict-report v .number) a
-
-    pub gates-admitted : judge-number image st log sheet work addr bytes ≡ 0 → {st′ : State} {log′ : List ℕ} → st′ ≡ appended st addr (length bytes) → log′ ≡ update-bytes log (together (log-records st)) bytes
+    pub gates-admitted : {n : ℕ} → answer ≡ Admitted n → {st′ : State} {log′ : List ℕ} → st′ ≡ appended st addr (length bytes) → log′ ≡ update-bytes log (together (log-records st)) bytes
         → Gates image st log sheet work addr bytes answer st′ log′ work′
-    gates-admitted none s l =
+    gates-admitted a s l =
+        let none = admitted-number image st log sheet work addr bytes j a in
         record {
           answers = j .answers;
           state-after = s ∙ done-changed (appended st addr (length bytes)) st none;
@@ -215,7 +220,7 @@ module _ (image : List ℕ) (st : State) (log sheet work : List ℕ) (addr : ℕ
         }
 
     pub not-admitted-number : 0 < verdict-report answer .number → 0 < judge-number image st log sheet work addr bytes
-    not-admitted-number h = rw number-is at h
+    not-admitted-number h = rw (ap (λ (r : Report). r .number) (j .answers)) at h
 
     gates-left : 0 < verdict-report answer .number → Gates image st log sheet work addr bytes answer st log work′
     gates-left h =

@@ -26,7 +26,7 @@ use Rattle.gate.specs.declared.Verdict.{Verdict}
 use Rattle.gate.specs.declared.Verdict.the-variants.{Admitted, Denied, Refused}
 use Rattle.gate.specs.Judgement.{verdict-report, Judgement, tried, gate-points, judgement-report, judgement-work, Judges, Gates}
 use Rattle.gate.specs.Meaning.{Fits, Means, could-leave}
-use Rattle.gate.proofs.JudgementLaws.{J, nothing-reported, one-value, fitting-tried, number-0-fits, report-8-fits, admitted-number}
+use Rattle.gate.proofs.JudgementLaws.{J, nothing-reported, one-value, fitting-tried, admitted-fits, denied-fits}
 
 -- the numbers and values of document 01 tell the verdicts apart
 pub verdicts-by-report : (a b : Verdict) → verdict-report a ≡ verdict-report b → a ≡ b
@@ -68,12 +68,6 @@ module _ (image : List ℕ) (st : State) (log sheet work : List ℕ) (addr : ℕ
     left : (r : search.Verdict) → Fits image st log sheet work addr bytes → verdict-on ≡ r → work′ ≡ sheet-image v addr bytes r
     left r f e = p .work-after ∙ ap (λ (j : Judgement). judgement-work v addr bytes j work) (fitting-tried image st log sheet work addr bytes f ∙ ap tried e)
 
-    admitted-fits : (n : ℕ) → answer ≡ Admitted n → Fits image st log sheet work addr bytes × (verdict-on ≡ search.admit)
-    admitted-fits n a = number-0-fits image st log sheet work addr bytes (admitted-number image st log sheet work addr bytes p a)
-
-    denied-fits : (m : ℕ) → answer ≡ Denied m → Fits image st log sheet work addr bytes × (verdict-on ≡ search.deny m)
-    denied-fits m d = report-8-fits image st log sheet work addr bytes m (sym (p .answers) ∙ ap verdict-report d)
-
     admitted-so : Fits image st log sheet work addr bytes → verdict-on ≡ search.admit → (n : ℕ) × (answer ≡ Admitted n)
     admitted-so f e = (gate-points image st log addr bytes, answered search.admit (Admitted (gate-points image st log addr bytes)) refl f e)
 
@@ -85,26 +79,26 @@ module _ (image : List ℕ) (st : State) (log sheet work : List ℕ) (addr : ℕ
     judge-means =
         record {
           admits = (
-            λ a. let f = admitted-fits (a .0) (a .1) in (f .0, judged .admits .0 (f .1)),
+            λ a. let f = admitted-fits p (a .1) in (f .0, judged .admits .0 (f .1)),
             λ f. admitted-so (f .0) (judged .admits .1 (f .1)),
           );
           by-part-writes = (
-            λ a. let f = admitted-fits (a .0) (a .1) in (f .0, judged .by-part-writes .0 (f .1)),
+            λ a. let f = admitted-fits p (a .1) in (f .0, judged .by-part-writes .0 (f .1)),
             λ f. admitted-so (f .0) (judged .by-part-writes .1 (f .1)),
           );
           denies = (
-            λ d. let f = denied-fits (d .0) (d .1) in (f .0, judged .denies .0 (d .0, f .1)),
+            λ d. let f = denied-fits p (d .1) in (f .0, judged .denies .0 (d .0, f .1)),
             λ f. let d = judged .denies .1 (f .1) in (d .0, denied-so (d .0) (f .0) (d .1)),
           );
           names-the-first = λ m. (
-            λ d. let f = denied-fits m d in (f .0, judged .names-the-first m .0 (f .1)),
+            λ d. let f = denied-fits p d in (f .0, judged .names-the-first m .0 (f .1)),
             λ f. denied-so m (f .0) (judged .names-the-first m .1 (f .1)),
           );
-          admitted-leaves = λ n a. let f = admitted-fits n a in (
+          admitted-leaves = λ n a. let f = admitted-fits p a in (
             one-value (ap (λ (r : Report). r .values) (sym (ap verdict-report a) ∙ ap verdict-report (answered search.admit (Admitted (gate-points image st log addr bytes)) refl (f .0) (f .1)))),
             left search.admit (f .0) (f .1),
           );
-          denied-leaves = λ m d. let f = denied-fits m d in left (search.deny m) (f .0) (f .1);
+          denied-leaves = λ m d. let f = denied-fits p d in left (search.deny m) (f .0) (f .1);
         }
 
   -- the gate answers as the judging call does
