@@ -1,12 +1,12 @@
 -- A trial's three steps leave the image of its choice number: the image, the log over it by the number's lowest points, and the new write by those
 -- above. Assumes nothing.
-use Prim.Native.Nat.{ℕ, _-_, _/_, _^_}
+use Prim.Native.Nat.{ℕ, _+_, _-_, _/_, _^_, _<_}
 use native.Mathlib.Nat.{add-sub-cancel}
 use native.Mathlib.Omega.{arith}
-use mathlib.Core.Path.{_≡_, sym, ap, ap₂, _∙_}
+use mathlib.Core.Path.{_≡_, sym, ap, _∙_}
 use mathlib.Core.List.{List}
 use lib.Dec.{lit<}
-use lib.ListN.{length}
+use lib.ListN.{length, take, drop}
 use Rattle.region.specs.Limits.{const-persistence-chunk-size}
 use Rattle.replay.specs.AsyncSpec.{Write, size-to-chunks, apply-write-selective, flush-writes-selective, write}
 use Rattle.replay.specs.Choice.{touched, row-of, rows-of}
@@ -17,10 +17,37 @@ use Rattle.records.specs.State.{log-records, view}
 use Rattle.records.specs.Log.{last-writes, Remaining}
 use Rattle.records.specs.declared.state.State.{State}
 use Rattle.records.proofs.Soundness.{sound-facts}
-use Rattle.records.proofs.Walk.{all-writes, all-remain}
+use Rattle.records.proofs.Walk.{oldest, no-more, step, piece-is, all-writes, all-remain}
 use Rattle.engine.specs.Count.{record-points}
 use Rattle.engine.specs.Search.{Ready}
-use Rattle.engine.proofs.PointLaws.{points-by-records}
+use Rattle.engine.proofs.PointLaws.{points-by-records, piece-length}
+
+-- a log replayed over an image, and one write laid over it, by the chunks that a choice number keeps
+abbrev replay-by : ℕ → List ℕ → List Write → List ℕ
+replay-by m s ws = flush-writes-selective const-persistence-chunk-size s ws (rows-of const-persistence-chunk-size (size-to-chunks const-persistence-chunk-size (length s)) ws m)
+
+abbrev lay-by : ℕ → List ℕ → Write → List ℕ
+lay-by m s w = apply-write-selective const-persistence-chunk-size s w (row-of const-persistence-chunk-size (size-to-chunks const-persistence-chunk-size (length s)) w m)
+
+-- the replay of the last writes: none is left, or the oldest is laid by the number's lowest points and the others by those above
+module _ (work : List ℕ) (st : State) (log : List ℕ) (at left m : ℕ) (remain : Remaining (length work) st (length log) at left) where
+  pub replay-none : left ≡ 0 → work ≡ replay-by m work (last-writes st left log at)
+  unfolding flush-writes-selective
+  replay-none none = rw (no-more _ st _ at left remain none log)
+
+  pub replay-step : 0 < left → {laid work′ : List ℕ} {n : ℕ} → let r = oldest st left in
+      laid ≡ lay-by m work (new-write (r .addr) (take (at + r .len - at) (drop at log)))
+      → length laid ≡ length work
+      → n ≡ touched const-persistence-chunk-size (r .addr) (r .len)
+      → work′ ≡ replay-by (m / 2 ^ n) laid (last-writes st (left - 1) log (at + r .len))
+      → work′ ≡ replay-by m work (last-writes st left log at)
+  unfolding flush-writes-selective rows-of
+  replay-step more {laid} {work′} {n} l same k w =
+      let r = oldest st left in
+      let walked = step _ st _ at left remain more in
+      let piece = piece-is at (r .len) log in
+      let long : length (take (r .len) (drop at log)) ≡ r .len = sym (ap length piece) ∙ piece-length at (r .len) log (walked .has) in
+      rw (w, same, l, piece, k, walked .writes log, long)
 
 -- the whole log is left to replay
 pub log-remains : {L : ℕ} {st : State} {log-length work-length addr n points : ℕ} → Ready L st log-length work-length addr n points → Remaining L st log-length 0 (st .count)
@@ -37,17 +64,9 @@ module _ (image : List ℕ) (st : State) (log : List ℕ) (work-length addr : �
 
   pub trial-image : (m : ℕ) {copied replayed work′ : List ℕ} {older : ℕ}
       → copied ≡ image
-      → replayed ≡ flush-writes-selective const-persistence-chunk-size copied (last-writes st (st .count) log 0) (rows-of const-persistence-chunk-size (size-to-chunks const-persistence-chunk-size (length copied)) (last-writes st (st .count) log 0) m)
+      → replayed ≡ replay-by m copied (last-writes st (st .count) log 0)
       → length replayed ≡ length image
       → older ≡ n - touched const-persistence-chunk-size addr (length bytes)
-      → work′ ≡ apply-write-selective const-persistence-chunk-size replayed (new-write addr bytes) (row-of const-persistence-chunk-size (size-to-chunks const-persistence-chunk-size (length replayed)) (new-write addr bytes) (m / 2 ^ older))
+      → work′ ≡ lay-by (m / 2 ^ older) replayed (new-write addr bytes)
       → work′ ≡ choice-image const-persistence-chunk-size (write (view image st log) addr bytes) m
-  trial-image m {copied} {replayed} {work′} {older} c p l o w =
-      let C = const-persistence-chunk-size in
-      let v = view image st log in
-      let before : replayed ≡ choice-image C v m =
-      p ∙ ap₂ (λ (s : List ℕ) (ws : List Write). flush-writes-selective C s ws (rows-of C (size-to-chunks C (length s)) ws m)) c (all-writes (length image) st (length log) log) in
-      w
-      ∙ ap₂ (λ (k e : ℕ). apply-write-selective C replayed (new-write addr bytes) (row-of C (size-to-chunks C k) (new-write addr bytes) (m / 2 ^ e))) l (o ∙ older-points)
-      ∙ ap (λ (s : List ℕ). apply-write-selective C s (new-write addr bytes) (row-of C (size-to-chunks C (length image)) (new-write addr bytes) (m / 2 ^ choice-points C v))) before
-      ∙ sym (choice-of-a-write C (lit< tt) v addr bytes m)
+  trial-image m c p l o w = rw (w, l, p, c, all-writes (length image) st (length log) log, o, older-points, choice-of-a-write const-persistence-chunk-size (lit< tt) (view image st log) addr bytes m)

@@ -1,7 +1,7 @@
 -- The loop's invariant: the numbers below m are tried and good. Assumes nothing.
-use Prim.Native.Nat.{ℕ, _+_, _-_, _^_, _<_}
+use Prim.Native.Nat.{_+_, _-_, _^_, _<_}
 use native.Mathlib.Omega.{arith}
-use mathlib.Core.Path.{_≡_, refl, sym, subst⁻¹, _∙_}
+use mathlib.Core.Path.{_≡_, refl, sym, _∙_}
 use lib.ListN.{length}
 use lib.Pow.{pow-pos}
 use borrow.Author.Tests.{not-true, not-false}
@@ -9,7 +9,6 @@ use Rattle.region.specs.Limits.{const-persistence-chunk-size}
 use Rattle.replay.specs.AsyncSpec.{write}
 use Rattle.cuts.specs.Number.{choice-points}
 use Rattle.records.specs.State.{view}
-use Rattle.engine.specs.Search.{Ready}
 use Rattle.engine.proofs.SearchLaws.{Tried, tried-none, tried-more, found-bad, found-none, numbers-exact, ready-points}
 use Rattle.engine.proofs.search.search.Statement.{statement}
 use Rattle.engine.proofs.search.search.Tie as tie
@@ -52,10 +51,7 @@ loop-holds c =
     (omega (arith, numbers-exact (entry .args .points) (entry .pre .few), pow-pos (entry .args .points)), refl, tried-none (points-here entry))
 
 trial-requires : tie.Need-trial-requires Inv-loop μ-loop
-trial-requires c κs =
-    let entry = start (c .before) in
-    let a = entry .args in
-    subst⁻¹ (λ (n : ℕ). Ready (length (a .image .now)) (a .state) (length (a .log .now)) n (a .addr) (length (a .bytes .now)) (a .points)) (c .before .before .loop .inv .1) (entry .pre)
+trial-requires c κs = rw (c .before .before .loop .inv .1) (start (c .before) .pre)
 
 same-length : tie.Need-same-length Inv-loop μ-loop
 same-length c =

@@ -1,11 +1,9 @@
 -- A trial, by its three steps. Assumes nothing.
 use Prim.Native.Nat.{ℕ, _-_}
 use native.Mathlib.Omega.{arith}
-use mathlib.Core.Path.{ap, subst⁻¹, _∙_}
-use lib.ListN.{length}
+use mathlib.Core.Path.{ap, _∙_}
 use borrow.Author.Needs.{needs}
 use Rattle.replay.proofs.Laid.{update-whole}
-use Rattle.records.specs.Log.{Remaining}
 use Rattle.engine.proofs.PointLaws.{all-points}
 use Rattle.engine.proofs.TrialLaws.{log-remains, trial-image}
 use Rattle.engine.proofs.trial.trial.Statement.{statement}
@@ -22,10 +20,7 @@ replay-chosen-requires : tie.Need-replay-chosen-requires
 replay-chosen-requires c κs =
     let at = c .before .before .before in
     let entry = start at in
-    let a = entry .args in (
-      subst⁻¹ (λ (n : ℕ). Remaining n (a .state) (length (a .log .now)) 0 (a .state .count)) (at .lay .kept .0 ∙ entry .pre .same) (log-remains (entry .pre)),
-      omega (arith, all-points 8 (a .state), entry .pre .counted, entry .pre .few),
-    )
+    (rw (at .lay .kept .0 ∙ entry .pre .same) (log-remains (entry .pre)), omega (arith, all-points 8 (entry .args .state), entry .pre .counted, entry .pre .few))
 
 whole : tie.Need-returns
 whole c =
