@@ -37,6 +37,10 @@ pub record Holds (image : List ℕ) (st : State) (log sheet : List ℕ) : Type 0
   pub facts : Sound (length image) st (length log)
   pub all-obey : (x : List ℕ) → can-crash const-persistence-chunk-size (view image st log) x → obeys sheet x x ≡ true
 
+-- the log buffer with a recorded write's bytes
+abbrev log-with : State → List ℕ → List ℕ → List ℕ
+log-with st log bytes = update-bytes log (together (log-records st)) bytes
+
 -- an empty log over an image that obeys
 pub empty-holds : (image : List ℕ) (st : State) (log sheet : List ℕ) → length (st .records) ≡ writes-limit → Openable image log sheet → Holds image (emptied st) log sheet
 empty-holds image st log sheet sized o =
@@ -69,8 +73,8 @@ module _ (image : List ℕ) (st : State) (log sheet work : List ℕ) (addr : ℕ
   -- Once an admitted write is recorded, by whichever call, the log has it at its end and every image that a cut could leave obeys.
   pub recorded-holds : length (st .records) ≡ writes-limit → Fits image st log sheet work addr bytes
       → ((x : List ℕ) → can-crash const-persistence-chunk-size (write (view image st log) addr bytes) x → obeys sheet x x ≡ true)
-      → (view image (appended st addr (length bytes)) (update-bytes log (together (log-records st)) bytes) ≡ write (view image st log) addr bytes)
-      × Holds image (appended st addr (length bytes)) (update-bytes log (together (log-records st)) bytes) sheet
+      → (view image (appended st addr (length bytes)) (log-with st log bytes) ≡ write (view image st log) addr bytes)
+      × Holds image (appended st addr (length bytes)) (log-with st log bytes) sheet
   recorded-holds sized f all =
       let facts = sound-facts (length image) st (length log) (f .good) in
       let room : Room (length image) st addr (length bytes) = record { lies = f .lies; few = f .few-writes; fits = f .few-bytes } in
@@ -86,8 +90,8 @@ module _ (image : List ℕ) (st : State) (log sheet work : List ℕ) (addr : ℕ
   -- an admitted judging call, whose write is recorded by another call in that same state
   pub judged-holds : {answer : Verdict} {work′ : List ℕ} → length (st .records) ≡ writes-limit → Judges image st log sheet work addr bytes answer work′ → {n : ℕ} → answer ≡ Admitted n
       → (write-number image st log addr (length bytes) ≡ 0)
-      × (view image (appended st addr (length bytes)) (update-bytes log (together (log-records st)) bytes) ≡ write (view image st log) addr bytes)
-      × Holds image (appended st addr (length bytes)) (update-bytes log (together (log-records st)) bytes) sheet
+      × (view image (appended st addr (length bytes)) (log-with st log bytes) ≡ write (view image st log) addr bytes)
+      × Holds image (appended st addr (length bytes)) (log-with st log bytes) sheet
   judged-holds sized j {n} a =
       let means = judge-means image st log sheet work addr bytes j .admits .0 (n, a) in
       let held = recorded-holds sized (means .0) (means .1) in
@@ -102,10 +106,10 @@ module _ (image : List ℕ) (st : State) (log sheet work : List ℕ) (addr : ℕ
         let none = admitted-number image st log sheet work addr bytes j a in
         let held = judged-holds sized j a in
         let s : st′ ≡ appended st addr (length bytes) = g .state-after ∙ sym (done-changed (appended st addr (length bytes)) st none) in
-        let l : log′ ≡ update-bytes log (together (log-records st)) bytes = g .log-after ∙ sym (done-changed (update-bytes log (together (log-records st)) bytes) log none) in
+        let l : log′ ≡ log-with st log bytes = g .log-after ∙ sym (done-changed (log-with st log bytes) log none) in
         let seen : view image st′ log′ ≡ write (view image st log) addr bytes = ap₂ (view image) s l ∙ held .1 in (
           seen,
-          subst⁻¹ (λ (b : List ℕ). Holds image st′ b sheet) l (subst⁻¹ (λ (t : State). Holds image t (update-bytes log (together (log-records st)) bytes) sheet) s (held .2)),
+          subst⁻¹ (λ (b : List ℕ). Holds image st′ b sheet) l (subst⁻¹ (λ (t : State). Holds image t (log-with st log bytes) sheet) s (held .2)),
           judge-means image st log sheet work addr bytes j .admitted-leaves n a .1 ∙ ap readable (sym seen),
         )
 
@@ -114,7 +118,7 @@ module _ (image : List ℕ) (st : State) (log sheet work : List ℕ) (addr : ℕ
     not-admitted-left h =
         let some = not-admitted-number (gate-judges image st log sheet work addr bytes g) h in (
           g .state-after ∙ not-done (judge-number image st log sheet work addr bytes) (appended st addr (length bytes)) st some,
-          g .log-after ∙ not-done (judge-number image st log sheet work addr bytes) (update-bytes log (together (log-records st)) bytes) log some,
+          g .log-after ∙ not-done (judge-number image st log sheet work addr bytes) (log-with st log bytes) log some,
         )
 
     pub gate-refused-left : {why : Refusal} → answer ≡ Refused why → (st′ ≡ st) × (log′ ≡ log) × (work′ ≡ work)

@@ -3,6 +3,7 @@ use Prim.Native.Nat.{ℕ, zero, suc, _+_, _≤_, _<_}
 use native.Mathlib.Nat.{suc-ne-zero}
 use native.Mathlib.Omega.{arith}
 use mathlib.Core.Path.{_≡_, refl, sym, ap, _∙_}
+use mathlib.Core.Logic.{_⊎_, inl, inr, ⊎-elim}
 use mathlib.Core.Bool.{Bool, true, false, _&&_, and-false}
 use mathlib.Core.List.{List, [], _∷_}
 use lib.Dec.{leb, eqb}
@@ -27,31 +28,19 @@ use Rattle.engine.specs.Search.{searched, sheet-verdict, Searches}
 use Rattle.gate.specs.declared.Verdict.{Verdict}
 use Rattle.gate.specs.declared.Verdict.the-variants.{Admitted, Denied, Refused}
 use Rattle.gate.specs.Meaning.{Fits}
-use Rattle.gate.specs.Judgement.{denied-number, verdict-report, Judgement, refused, tried, gate-points, weighed, fitted, judgement, judgement-report, judgement-work, judge-report, judge-number, Judges, Gates, Weighs}
+use Rattle.gate.specs.Judgement.{denied-number, verdict-report, Judgement, refused, tried, gate-points, weighed, fitted, judgement, judgement-report, judgement-work, judge-report, judge-number, judge-work, Judges, Gates, Weighs}
 
--- the tests of a judgement, as bare values
+-- the tests of a judgement, as bare values: all are passed, or one refuses, with a number above 0
 abbrev tests : Bool → Bool → ℕ → Bool → search.Verdict → Judgement
 tests t₁ t₂ k t₃ r = unless t₁ (refused 1) (unless t₂ (refused 5) (if-done k (unless t₃ (refused 7) (tried r)) (refused k)))
 
-all-passed : (t₁ t₂ : Bool) (k : ℕ) (t₃ : Bool) (r r′ : search.Verdict) → tests t₁ t₂ k t₃ r ≡ tried r′ → (t₁ ≡ true) × (t₂ ≡ true) × (k ≡ 0) × (t₃ ≡ true) × (r′ ≡ r)
-all-passed true true zero true r r′ e = (refl, refl, refl, refl, cc)
-all-passed true true zero false r r′ e = let z : _≡_ {A = ℕ} 0 1 = cc in absurd (omega arith)
-all-passed true true (suc k) t₃ r r′ e = let z : _≡_ {A = ℕ} 0 1 = cc in absurd (omega arith)
-all-passed true false k t₃ r r′ e = let z : _≡_ {A = ℕ} 0 1 = cc in absurd (omega arith)
-all-passed false t₂ k t₃ r r′ e = let z : _≡_ {A = ℕ} 0 1 = cc in absurd (omega arith)
-
--- no refusal has the number of a done call
-number-of : Judgement → ℕ
-number-of (refused why) = why
-number-of (tried r) = 1
-
-never-zero : (t₁ t₂ : Bool) (k : ℕ) (t₃ : Bool) (r : search.Verdict) → tests t₁ t₂ k t₃ r ≡ refused 0 → ⊥
-unfolding number-of
-never-zero true true zero true r e = suc-ne-zero 0 (ap number-of e)
-never-zero true true zero false r e = suc-ne-zero 6 (ap number-of e)
-never-zero true true (suc k) t₃ r e = suc-ne-zero k (ap number-of e)
-never-zero true false k t₃ r e = suc-ne-zero 4 (ap number-of e)
-never-zero false t₂ k t₃ r e = suc-ne-zero 0 (ap number-of e)
+passed-or-refused : (t₁ t₂ : Bool) (k : ℕ) (t₃ : Bool) (r : search.Verdict)
+    → ((t₁ ≡ true) × (t₂ ≡ true) × (k ≡ 0) × (t₃ ≡ true)) ⊎ ((why : ℕ) × (0 < why) × (tests t₁ t₂ k t₃ r ≡ refused why))
+passed-or-refused true true zero true r = inl (refl, refl, refl, refl)
+passed-or-refused true true zero false r = inr (7, omega arith, refl)
+passed-or-refused true true (suc k) t₃ r = inr (suc k, omega arith, refl)
+passed-or-refused true false k t₃ r = inr (5, omega arith, refl)
+passed-or-refused false t₂ k t₃ r = inr (1, omega arith, refl)
 
 -- a report of a value is none of nothing, and tells the value
 pub nothing-reported : {m : ℕ} → [] ≡ m ∷ [] → ⊥
@@ -59,6 +48,19 @@ nothing-reported e = suc-ne-zero 0 (sym (ap length e))
 
 pub one-value : {m n : ℕ} → _≡_ {A = List ℕ} (m ∷ []) (n ∷ []) → m ≡ n
 one-value e = cc
+
+-- what the report of a judgement on all images tells
+admit-reported : (n : ℕ) (r : search.Verdict) → judgement-report n (tried r) .number ≡ 0 → r ≡ search.admit
+admit-reported n search.admit e = refl
+admit-reported n (search.deny m) e = absurd (suc-ne-zero 7 e)
+
+deny-reported : (n m : ℕ) (r : search.Verdict) → judgement-report n (tried r) ≡ record { number = denied-number; values = m ∷ [] } → r ≡ search.deny m
+deny-reported n m search.admit e = absurd (suc-ne-zero 7 (sym (ap (λ (r : Report). r .number) e)))
+deny-reported n m (search.deny k) e = ap search.deny (one-value (ap (λ (r : Report). r .values) e))
+
+some-reported : (n : ℕ) (r : search.Verdict) → [] ≡ judgement-report n (tried r) .values → ⊥
+some-reported n search.admit e = nothing-reported e
+some-reported n (search.deny m) e = nothing-reported e
 
 -- the test of 1
 abbrev first : List ℕ → State → List ℕ → List ℕ → Bool
@@ -73,6 +75,13 @@ module _ (image : List ℕ) (st : State) (log sheet work : List ℕ) (addr : ℕ
   abbrev pub J : Judgement
   J = judgement image st log sheet work addr bytes
 
+  -- n, and the engine's verdict
+  abbrev points : ℕ
+  points = gate-points image st log addr bytes
+
+  abbrev verdict-on : search.Verdict
+  verdict-on = sheet-verdict sheet (view image st log) addr bytes
+
   -- the tests that were passed
   module _ (good : sound (length image) st (length log) ≡ true) (same : length work ≡ length image) where
     first-passed : J ≡ unless (well-formed sheet) (refused 5) (fitted image st log sheet addr bytes)
@@ -86,48 +95,50 @@ module _ (image : List ℕ) (st : State) (log sheet work : List ℕ) (addr : ℕ
   fits-room f = room-there (length image) st addr (length bytes) (le-leb (addr + length bytes) (length image) (f .lies)) (f .few-writes) (f .few-bytes)
 
   -- a write that fits is judged on all its images, and no other is
-  pub fitting-tried : Fits image st log sheet work addr bytes → J ≡ tried (sheet-verdict sheet (view image st log) addr bytes)
+  pub fitting-tried : Fits image st log sheet work addr bytes → J ≡ tried verdict-on
   fitting-tried f = by-room (f .good) (f .same) (f .formed) (fits-room f) ∙ weighed-few image st log sheet addr bytes (f .few-points)
 
-  pub tried-fits : (r : search.Verdict) → J ≡ tried r → Fits image st log sheet work addr bytes × (r ≡ sheet-verdict sheet (view image st log) addr bytes)
+  pub fits-or-refused : Fits image st log sheet work addr bytes ⊎ ((why : ℕ) × (0 < why) × (J ≡ refused why))
   unfolding judgement
-  tried-fits r e =
-      let t = all-passed (first image st log work) (well-formed sheet) (room-number (length image) st addr (length bytes)) (leb (gate-points image st log addr bytes) points-limit) (sheet-verdict sheet (view image st log) addr bytes) r e in
-      let t₁ = both _ _ (t .0) in
-      let room = room-done (length image) st addr (length bytes) (t .2) in (
-        record {
-          good = t₁ .0;
-          same = eqb-true (length work) (length image) (t₁ .1);
-          formed = t .1;
-          lies = room .lies;
-          few-writes = room .few;
-          few-bytes = room .fits;
-          few-points = leb-true (gate-points image st log addr bytes) points-limit (t .3);
-        },
-        t .4,
-      )
-
-  not-refused-0 : J ≡ refused 0 → ⊥
-  unfolding judgement
-  not-refused-0 e = never-zero (first image st log work) (well-formed sheet) (room-number (length image) st addr (length bytes)) (leb (gate-points image st log addr bytes) points-limit) (sheet-verdict sheet (view image st log) addr bytes) e
+  fits-or-refused =
+      ⊎-elim
+      (λ t. let t₁ = both _ _ (t .0) in
+      let room = room-done (length image) st addr (length bytes) (t .2) in
+      inl (record {
+        good = t₁ .0;
+        same = eqb-true (length work) (length image) (t₁ .1);
+        formed = t .1;
+        lies = room .lies;
+        few-writes = room .few;
+        few-bytes = room .fits;
+        few-points = leb-true points points-limit (t .3);
+      }))
+      inr
+      (passed-or-refused (first image st log work) (well-formed sheet) (room-number (length image) st addr (length bytes)) (leb points points-limit) verdict-on)
 
   -- number 0: the write fits and is admitted
-  pub number-0-fits : judge-number image st log sheet work addr bytes ≡ 0 → Fits image st log sheet work addr bytes × (sheet-verdict sheet (view image st log) addr bytes ≡ search.admit)
-  number-0-fits = go J refl
-    where
-      go : (j : Judgement) → J ≡ j → judgement-report (gate-points image st log addr bytes) j .number ≡ 0 → Fits image st log sheet work addr bytes × (sheet-verdict sheet (view image st log) addr bytes ≡ search.admit)
-      go (refused why) e z = absurd (not-refused-0 (e ∙ ap refused z))
-      go (tried search.admit) e z = let f = tried-fits search.admit e in (f .0, sym (f .1))
-      go (tried (search.deny m)) e z = absurd (suc-ne-zero 7 z)
+  pub number-0-fits : judge-number image st log sheet work addr bytes ≡ 0 → Fits image st log sheet work addr bytes × (verdict-on ≡ search.admit)
+  number-0-fits none =
+      ⊎-elim
+      (λ f. (f, admit-reported points verdict-on (rw (fitting-tried f, judge-number) at none)))
+      (λ w. absurd (omega (arith, w .1, rw (w .2, judge-number) at none)))
+      fits-or-refused
 
   -- number 8 with m: it fits, and m is the first bad number
-  pub report-8-fits : (m : ℕ) → judge-report image st log sheet work addr bytes ≡ record { number = denied-number; values = m ∷ [] } → Fits image st log sheet work addr bytes × (sheet-verdict sheet (view image st log) addr bytes ≡ search.deny m)
-  report-8-fits m = go J refl
-    where
-      go : (j : Judgement) → J ≡ j → judgement-report (gate-points image st log addr bytes) j ≡ record { number = denied-number; values = m ∷ [] } → Fits image st log sheet work addr bytes × (sheet-verdict sheet (view image st log) addr bytes ≡ search.deny m)
-      go (refused why) e z = absurd (nothing-reported (ap (λ (r : Report). r .values) z))
-      go (tried search.admit) e z = absurd (suc-ne-zero 7 (sym (ap (λ (r : Report). r .number) z)))
-      go (tried (search.deny k)) e z = let f = tried-fits (search.deny k) e in (f .0, sym (f .1) ∙ ap search.deny (one-value (ap (λ (r : Report). r .values) z)))
+  pub report-8-fits : (m : ℕ) → judge-report image st log sheet work addr bytes ≡ record { number = denied-number; values = m ∷ [] } → Fits image st log sheet work addr bytes × (verdict-on ≡ search.deny m)
+  report-8-fits m e =
+      ⊎-elim
+      (λ f. (f, deny-reported _ m _ (rw (fitting-tried f) at e)))
+      (λ w. absurd (nothing-reported (ap (λ (r : Report). r .values) (rw (w .2) at e))))
+      fits-or-refused
+
+  -- a report of no value: no image was judged
+  none-judged : [] ≡ judge-report image st log sheet work addr bytes .values → judge-work image st log sheet work addr bytes ≡ work
+  none-judged e =
+      ⊎-elim
+      (λ f. absurd (some-reported points verdict-on (rw (fitting-tried f) at e)))
+      (λ w. ap (λ (j : Judgement). judgement-work (view image st log) addr bytes j work) (w .2))
+      fits-or-refused
 
   pub admitted-number : {answer : Verdict} {work′ : List ℕ} → Judges image st log sheet work addr bytes answer work′ → {n : ℕ} → answer ≡ Admitted n → judge-number image st log sheet work addr bytes ≡ 0
   admitted-number j a = sym (ap (λ (r : Report). r .number) (j .answers)) ∙ ap (λ (v : Verdict). verdict-report v .number) a
@@ -165,28 +176,27 @@ module _ {image : List ℕ} {st : State} {log sheet work : List ℕ} {addr : ℕ
         → {answer : Verdict} {work′ : List ℕ} → Weighs image st log sheet work addr bytes answer work′ → Judges image st log sheet work addr bytes answer work′
     judges-weighed formed e w = judges-so (by-room image st log sheet work addr bytes good same formed e) (w .answers) (w .work-after)
 
-  pub weighs-many : points-limit < gate-points image st log addr bytes → Weighs image st log sheet work addr bytes (Refused TooManyPoints) work
-  weighs-many h =
-      let seven : weighed image st log sheet addr bytes ≡ refused 7 = cond-unless (leb (gate-points image st log addr bytes) points-limit) _ (refused 7) (lt-leb (gate-points image st log addr bytes) points-limit h) in
+  weighs-so : {j : Judgement} {answer : Verdict} {work′ : List ℕ} → weighed image st log sheet addr bytes ≡ j
+      → verdict-report answer ≡ judgement-report (gate-points image st log addr bytes) j → work′ ≡ judgement-work (view image st log) addr bytes j work
+      → Weighs image st log sheet work addr bytes answer work′
+  weighs-so e a w =
       record {
-        answers = sym (ap (judgement-report (gate-points image st log addr bytes)) seven);
-        work-after = sym (ap (λ (j : Judgement). judgement-work (view image st log) addr bytes j work) seven);
+        answers = a ∙ sym (ap (judgement-report (gate-points image st log addr bytes)) e);
+        work-after = w ∙ sym (ap (λ (j : Judgement). judgement-work (view image st log) addr bytes j work) e);
       }
 
+  pub weighs-many : points-limit < gate-points image st log addr bytes → Weighs image st log sheet work addr bytes (Refused TooManyPoints) work
+  weighs-many h = weighs-so (cond-unless (leb (gate-points image st log addr bytes) points-limit) _ (refused 7) (lt-leb (gate-points image st log addr bytes) points-limit h)) refl refl
+
   module _ (few : gate-points image st log addr bytes ≤ points-limit) {outcome : Outcome} {work′ : List ℕ} (s : Searches (view image st log) sheet addr bytes outcome work′) where
-    weighs-so : (answer : Verdict) → verdict-report answer ≡ judgement-report (gate-points image st log addr bytes) (tried (searched outcome)) → Weighs image st log sheet work addr bytes answer work′
-    weighs-so answer e =
-        let few-so = weighed-few image st log sheet addr bytes few in
-        record {
-          answers = e ∙ ap (judgement-report (gate-points image st log addr bytes)) (ap tried (s .answers) ∙ sym few-so);
-          work-after = s .work-after ∙ ap (λ (j : Judgement). judgement-work (view image st log) addr bytes j work) (sym few-so);
-        }
+    weighs-searched : (answer : Verdict) → verdict-report answer ≡ judgement-report (gate-points image st log addr bytes) (tried (searched outcome)) → Weighs image st log sheet work addr bytes answer work′
+    weighs-searched answer e = weighs-so (weighed-few image st log sheet addr bytes few) (e ∙ ap (λ (r : search.Verdict). judgement-report (gate-points image st log addr bytes) (tried r)) (s .answers)) (s .work-after)
 
     pub weighs-admitted : {n : ℕ} → outcome ≡ AllGood → n ≡ gate-points image st log addr bytes → Weighs image st log sheet work addr bytes (Admitted n) work′
-    weighs-admitted {n} o e = weighs-so (Admitted n) (rw (o, e))
+    weighs-admitted {n} o e = weighs-searched (Admitted n) (rw (o, e))
 
     pub weighs-denied : {m : ℕ} → outcome ≡ FirstBad m → Weighs image st log sheet work addr bytes (Denied m) work′
-    weighs-denied {m} o = weighs-so (Denied m) (rw o)
+    weighs-denied {m} o = weighs-searched (Denied m) (rw o)
 
   -- what is done with a judged write
   module _ {answer : Verdict} {work′ : List ℕ} (j : Judges image st log sheet work addr bytes answer work′) where
@@ -198,15 +208,7 @@ module _ {image : List ℕ} {st : State} {log sheet work : List ℕ} {addr : ℕ
 
     -- a refusal judged nothing
     pub refused-work : {why : Refusal} → answer ≡ Refused why → work′ ≡ work
-    refused-work {why} a = go (J image st log sheet work addr bytes) refl
-      where
-        none-reported : {x : Judgement} → J image st log sheet work addr bytes ≡ x → [] ≡ judgement-report (gate-points image st log addr bytes) x .values
-        none-reported e = ap (λ (r : Report). r .values) (sym (ap verdict-report a) ∙ j .answers ∙ ap (judgement-report (gate-points image st log addr bytes)) e)
-
-        go : (x : Judgement) → J image st log sheet work addr bytes ≡ x → work′ ≡ work
-        go (refused k) e = j .work-after ∙ ap (λ (x : Judgement). judgement-work (view image st log) addr bytes x work) e
-        go (tried search.admit) e = absurd (nothing-reported (none-reported e))
-        go (tried (search.deny m)) e = absurd (nothing-reported (none-reported e))
+    refused-work a = j .work-after ∙ none-judged image st log sheet work addr bytes (ap (λ (r : Report). r .values) (sym (ap verdict-report a) ∙ j .answers))
 
     pub gates-admitted : {n : ℕ} → answer ≡ Admitted n → {st′ : State} {log′ : List ℕ} → st′ ≡ appended st addr (length bytes) → log′ ≡ update-bytes log (together (log-records st)) bytes
         → Gates image st log sheet work addr bytes answer st′ log′ work′

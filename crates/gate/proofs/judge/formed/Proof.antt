@@ -1,5 +1,6 @@
 -- `gate::judge::formed` meets its contract: only a malformed sheet is judged malformed, whatever the image. Assumes nothing.
 use mathlib.Core.Path.{sym, _∙_}
+use mathlib.Core.List.{[]}
 use borrow.Author.Needs.{needs}
 use Rattle.sheet.proofs.Laws.{malformed-iff, obeys-iff, breaks-iff}
 use Rattle.gate.proofs.judge.formed.Statement.{statement}
@@ -9,14 +10,10 @@ malformed : tie.Need-returns
 malformed c = sym (malformed-iff _ _ .0 (sym (c .before .before .judge .ensures) ∙ c .enum-told .given .1))
 
 obeyed : tie.Need-returns-2
-obeyed c =
-    let image = c .before .before .before .before .before .args .image .now in
-    sym (obeys-iff _ _ image .0 (sym (c .before .before .judge .ensures) ∙ c .enum-told2 .given .1) .0)
+obeyed c = sym (obeys-iff _ _ [] .0 (sym (c .before .before .judge .ensures) ∙ c .enum-told2 .given .1) .0)
 
 broken : tie.Need-returns-3
-broken c =
-    let image = c .before .before .before .before .before .args .image .now in
-    sym (breaks-iff _ _ image .0 (sym (c .before .before .judge .ensures) ∙ c .enum-told3 .given .1) .0)
+broken c = sym (breaks-iff _ _ [] .0 (sym (c .before .before .judge .ensures) ∙ c .enum-told3 .given .1) .0)
 
 pub formed-spec : {M : Type 1} → statement M
 formed-spec = tie.close (tie.spec (λ c κs. search needs) (λ c. search needs) (λ c. search needs) (λ c. search needs) malformed obeyed broken)
