@@ -61,13 +61,13 @@ same-length c =
 bad : tie.Need-returns Inv-loop μ-loop
 bad c =
     let at = tried (c .before) in
-    found-bad (turn at .before .loop .inv .2) (more-here (turn at)) (at .trial .ensures) (sym (c .before .obeyed .ensures) ∙ not-true _ (c .if1 .taken))
+    found-bad (turn at .before .loop .inv .2) (more-here (turn at)) (at .trial .ensures) (sym (c .before .obeyed .ensures) ∙ not-true (c .before .obeyed .result) (c .if1 .taken))
 
 loop-again : tie.Need-loop-again Inv-loop μ-loop
 loop-again c =
     let at = tried (c .before) in
     let inv = turn at .before .loop .inv in
-    (inv .0, at .trial .kept .1 .1 .1 .0 ∙ inv .1, tried-more (inv .2) (more-here (turn at)) (at .trial .ensures) (sym (c .before .obeyed .ensures) ∙ not-false _ (c .if1 .left)))
+    (inv .0, at .trial .kept .1 .1 .1 .0 ∙ inv .1, tried-more (inv .2) (more-here (turn at)) (at .trial .ensures) (sym (c .before .obeyed .ensures) ∙ not-false (c .before .obeyed .result) (c .if1 .left)))
 
 all-good : tie.Need-returns-2 Inv-loop μ-loop
 all-good c =
