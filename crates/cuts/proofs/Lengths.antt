@@ -4,13 +4,12 @@ use mathlib.Core.Path.{_≡_, refl, _∙_}
 use mathlib.Core.Bool.{Bool}
 use mathlib.Core.List.{List, [], _∷_}
 use lib.ListN.{length, getD, drop}
-use Rattle.region.specs.Pmemspec.{update-bytes}
 use Rattle.region.proofs.Tab.{length-tab}
 use Rattle.replay.specs.AsyncSpec.{Write, AsyncView, len, apply-write, apply-write-selective, flush-writes, flush-writes-selective, flush, flush-selective}
+use Rattle.replay.proofs.Laid.{length-update}
 
 pub length-apply-write : (s : List ℕ) (w : Write) → length (apply-write s w) ≡ length s
-unfolding update-bytes
-length-apply-write s w = length-tab _ (length s)
+length-apply-write s w = length-update s (w .addr) (w .bytes)
 
 pub length-apply-write-selective : (C : ℕ) (s : List ℕ) (w : Write) (row : List Bool) → length (apply-write-selective C s w row) ≡ length s
 unfolding apply-write-selective

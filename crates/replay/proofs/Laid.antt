@@ -1,6 +1,6 @@
 -- One write laid byte by byte. `lay keep s addr bytes` has the bytes of the write where `keep` says so: a whole write keeps every address
 -- (`update-is-lay`), a selective one those in selected chunks (by definition). A loop that has laid j bytes has `lay keep s addr (take j bytes)`,
--- and one byte more is one store or none (`lay-more`). Assumes nothing.
+-- and one byte more is one store or none (`lay-kept`, `lay-lost`). Assumes nothing.
 use Prim.Native.Nat.{ℕ, suc, _+_, _-_, _≤_, _<_}
 use native.Mathlib.Nat.{le-refl, add-sub-cancel-left, sub-zero}
 use native.Mathlib.Decide.{decLt, ℕ-discrete}
@@ -23,6 +23,10 @@ pub update-is-lay : (s : List ℕ) (addr : ℕ) (bytes : List ℕ) → update-by
 unfolding update-bytes lay
 update-is-lay s addr bytes =
     agree-tab _ _ (length s) (λ i h. ap (λ (b : Bool). cond b (getD bytes (i - addr) 0) (getD s i 0)) (sym (and-true (inside addr (length bytes) i))))
+
+pub length-update : (s : List ℕ) (addr : ℕ) (bytes : List ℕ) → length (update-bytes s addr bytes) ≡ length s
+unfolding update-bytes
+length-update s addr bytes = length-tab _ (length s)
 
 -- what is kept matters at the image's own addresses only
 pub lay-agree : (f g : ℕ → Bool) (s : List ℕ) (addr : ℕ) (bytes : List ℕ) → ((i : ℕ) → i < length s → f i ≡ g i) → lay f s addr bytes ≡ lay g s addr bytes

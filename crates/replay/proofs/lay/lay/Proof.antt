@@ -17,24 +17,26 @@ Inv-loop work₀ addr bytes j₀ work j = (j ≤ length bytes) × (length work �
 abbrev μ-loop : tie.MeasureT-loop
 μ-loop work₀ addr bytes j₀ work j = length bytes - j
 
-loop-holds : tie.Need-loop-holds Inv-loop μ-loop
-loop-holds c = (omega arith, refl, sym (lay-none (λ i. true) (c .args .work .now) (c .args .addr)))
-
 loop-again : tie.Need-loop-again Inv-loop μ-loop
 loop-again c =
     let at-loop = c .before .before .loop in
     let a = c .before .before .before .args in
-    let fits : a .addr + at-loop .j < length (a .work .now) = omega arith in
-    (omega arith, length-set (at-loop .work) (a .addr + at-loop .j) _ ∙ at-loop .inv .1, rw add-one (ap (λ (w : List ℕ). set w (a .addr + at-loop .j) (getD (a .bytes .now) (at-loop .j) 0)) (at-loop .inv .2) ∙ sym (lay-kept (λ i. true) (a .work .now) (a .addr) (a .bytes .now) (at-loop .j) fits (c .before .loop-test .taken) refl)))
+    let i = a .addr + at-loop .j in
+    let fits : a .addr + at-loop .j < length (a .work .now) = omega arith in (
+      omega arith,
+      length-set (at-loop .work) i _ ∙ at-loop .inv .1,
+      rw add-one (ap (λ (w : List ℕ). set w i (getD (a .bytes .now) (at-loop .j) 0)) (at-loop .inv .2)
+          ∙ sym (lay-kept (λ i. true) (a .work .now) (a .addr) (a .bytes .now) (at-loop .j) fits (c .before .loop-test .taken) refl)),
+    )
 
-same-length : tie.Need-same-length Inv-loop μ-loop
-same-length c = c .before .loop .inv .1
-
-returns : tie.Need-returns Inv-loop μ-loop
-returns c =
+all-laid : tie.Need-returns Inv-loop μ-loop
+all-laid c =
     let a = c .before .before .args in
     let done : c .before .loop .j ≡ length (a .bytes .now) = omega arith in
-    c .before .loop .inv .2 ∙ ap (λ (n : ℕ). lay (λ i. true) (a .work .now) (a .addr) (take n (a .bytes .now))) done ∙ ap (lay (λ i. true) (a .work .now) (a .addr)) (take-length (a .bytes .now)) ∙ sym (update-is-lay (a .work .now) (a .addr) (a .bytes .now))
+    c .before .loop .inv .2
+    ∙ ap (λ (n : ℕ). lay (λ i. true) (a .work .now) (a .addr) (take n (a .bytes .now))) done
+    ∙ ap (lay (λ i. true) (a .work .now) (a .addr)) (take-length (a .bytes .now))
+    ∙ sym (update-is-lay (a .work .now) (a .addr) (a .bytes .now))
 
 pub lay-spec : {M : Type 1} → statement M
 lay-spec =
@@ -42,12 +44,12 @@ lay-spec =
     (tie.spec
     Inv-loop
     μ-loop
-    loop-holds
+    (λ c. (omega arith, refl, sym (lay-none (λ i. true) (c .args .work .now) (c .args .addr))))
     (λ c. omega arith)
     (λ c. omega arith)
     (λ c. omega arith)
     (λ c. omega arith)
     (λ c. omega arith)
     loop-again
-    same-length
-    returns)
+    (λ c. c .before .loop .inv .1)
+    all-laid)

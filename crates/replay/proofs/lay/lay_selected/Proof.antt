@@ -17,51 +17,55 @@ use Rattle.replay.proofs.Laid.{lay, lay-agree, lay-none, lay-kept, lay-
 use Rattle.replay.proofs.lay.lay_selected.Statement.{statement}
 use Rattle.replay.proofs.lay.lay_selected.Tie as tie
 
+-- the addresses that the row keeps
+abbrev kept-at : List ℕ → ℕ → ℕ → Bool
+kept-at rows at i = row-bit rows at (i / const-persistence-chunk-size)
+
 abbrev Inv-loop : tie.InvT-loop
-Inv-loop work₀ addr bytes rows at j₀ work j = (j ≤ length bytes) × (length work ≡ length work₀) × (work ≡ lay (λ i. row-bit rows at (i / 8)) work₀ addr (take j bytes))
+Inv-loop work₀ addr bytes rows at j₀ work j = (j ≤ length bytes) × (length work ≡ length work₀) × (work ≡ lay (kept-at rows at) work₀ addr (take j bytes))
 
 abbrev μ-loop : tie.MeasureT-loop
 μ-loop work₀ addr bytes rows at j₀ work j = length bytes - j
 
-loop-holds : tie.Need-loop-holds Inv-loop μ-loop
-loop-holds c =
-    let a = c .before .before .before .args in
-    (omega arith, refl, sym (lay-none _ (a .work .now) (a .addr)))
+-- the addresses that this call's row keeps
+abbrev keep : tie.Start Inv-loop μ-loop → ℕ → Bool
+keep c = kept-at (c .args .rows .now) (c .args .at)
 
 loop-again : tie.Need-loop-again Inv-loop μ-loop
 loop-again c =
     let at-loop = c .before .before .before .loop in
-    let a = c .before .before .before .before .before .before .before .args in
-    let keep : ℕ → Bool = λ i. row-bit (a .rows .now) (a .at) (i / 8) in
-    let here : keep (a .addr + at-loop .j) ≡ c .before .row-bit .result = sym (c .before .row-bit .ensures) in
+    let start = c .before .before .before .before .before .before .before in
+    let a = start .args in
+    let i = a .addr + at-loop .j in
+    let here : keep start i ≡ c .before .row-bit .result = sym (c .before .row-bit .ensures) in
     let more : at-loop .j < length (a .bytes .now) = omega arith in
     let fits : a .addr + at-loop .j < length (a .work .now) = omega arith in
     ⊎-elim
     (λ w. (
       omega arith,
-      ap length (w .2) ∙ length-set (at-loop .work) (a .addr + at-loop .j) _ ∙ at-loop .inv .1,
-      rw add-one (w .2 ∙ ap (λ (x : List ℕ). set x (a .addr + at-loop .j) (getD (a .bytes .now) (at-loop .j) 0)) (at-loop .inv .2) ∙ sym (lay-kept keep (a .work .now) (a .addr) (a .bytes .now) (at-loop .j) fits more (here ∙ w .0 .taken))),
+      ap length (w .2) ∙ length-set (at-loop .work) i _ ∙ at-loop .inv .1,
+      rw add-one (w .2 ∙ ap (λ (x : List ℕ). set x i (getD (a .bytes .now) (at-loop .j) 0)) (at-loop .inv .2)
+          ∙ sym (lay-kept (keep start) (a .work .now) (a .addr) (a .bytes .now) (at-loop .j) fits more (here ∙ w .0 .taken))),
     ))
     (λ w. (
       omega arith,
       ap length (w .1) ∙ at-loop .inv .1,
-      rw add-one (w .1 ∙ at-loop .inv .2 ∙ sym (lay-lost keep (a .work .now) (a .addr) (a .bytes .now) (at-loop .j) fits more (here ∙ w .0 .left))),
+      rw add-one (w .1 ∙ at-loop .inv .2 ∙ sym (lay-lost (keep start) (a .work .now) (a .addr) (a .bytes .now) (at-loop .j) fits more (here ∙ w .0 .left))),
     ))
     (c .if1 .came)
 
-same-length : tie.Need-same-length Inv-loop μ-loop
-same-length c = c .before .loop .inv .1
-
-returns : tie.Need-returns Inv-loop μ-loop
+all-laid : tie.Need-returns Inv-loop μ-loop
 unfolding apply-write-selective lay
-returns c =
-    let a = c .before .before .before .before .before .args in
-    let L = length (a .work .now) in
+all-laid c =
+    let start = c .before .before .before .before .before in
+    let a = start .args in
+    let K = size-to-chunks const-persistence-chunk-size (length (a .work .now)) in
     let done : c .before .loop .j ≡ length (a .bytes .now) = omega arith in
     c .before .loop .inv .2
-    ∙ ap (λ (n : ℕ). lay (λ i. row-bit (a .rows .now) (a .at) (i / 8)) (a .work .now) (a .addr) (take n (a .bytes .now))) done
-    ∙ ap (lay (λ i. row-bit (a .rows .now) (a .at) (i / 8)) (a .work .now) (a .addr)) (take-length (a .bytes .now))
-    ∙ lay-agree (λ i. row-bit (a .rows .now) (a .at) (i / 8)) (λ i. getD (row-at (size-to-chunks const-persistence-chunk-size L) (a .rows .now) (a .at)) (i / 8) false) (a .work .now) (a .addr) (a .bytes .now) (λ i h. sym (row-at-bit (size-to-chunks const-persistence-chunk-size L) (a .rows .now) (a .at) (i / 8) (omega arith)))
+    ∙ ap (λ (n : ℕ). lay (keep start) (a .work .now) (a .addr) (take n (a .bytes .now))) done
+    ∙ ap (lay (keep start) (a .work .now) (a .addr)) (take-length (a .bytes .now))
+    ∙ lay-agree (keep start) (λ i. getD (row-at K (a .rows .now) (a .at)) (i / const-persistence-chunk-size) false) (a .work .now) (a .addr) (a .bytes .now)
+    (λ i h. sym (row-at-bit K (a .rows .now) (a .at) (i / const-persistence-chunk-size) (omega arith)))
 
 pub lay-selected-spec : {M : Type 1} → statement M
 lay-selected-spec =
@@ -69,7 +73,7 @@ lay-selected-spec =
     (tie.spec
     Inv-loop
     μ-loop
-    loop-holds
+    (λ c. (omega arith, refl, sym (lay-none _ (c .before .before .before .args .work .now) (c .before .before .before .args .addr))))
     (λ c. omega arith)
     (λ c κs. omega arith)
     (λ c. omega arith)
@@ -78,5 +82,5 @@ lay-selected-spec =
     (λ c. omega arith)
     (λ c. omega arith)
     loop-again
-    same-length
-    returns)
+    (λ c. c .before .loop .inv .1)
+    all-laid)

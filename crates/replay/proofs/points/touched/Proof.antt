@@ -8,18 +8,19 @@ use Rattle.region.specs.Limits.{const-persistence-chunk-size}
 use Rattle.replay.proofs.points.touched.Statement.{statement}
 use Rattle.replay.proofs.points.touched.Tie as tie
 
-returns : tie.Need-returns
+empty : tie.Need-returns
 unfolding touched
-returns c = sym (ap (touched const-persistence-chunk-size (c .before .args .addr)) (c .if1 .taken))
+empty c = sym (ap (touched const-persistence-chunk-size (c .before .args .addr)) (c .if1 .taken))
 
-returns-2 : tie.Need-returns-2
+some-bytes : tie.Need-returns-2
 unfolding touched
-returns-2 c =
+some-bytes c =
     let a = c .before .args in
+    let C = const-persistence-chunk-size in
     let some : a .len ≡ suc (a .len - 1) = omega arith in
-    let run : (a .addr + a .len - 1) / 8 - a .addr / 8 + 1 ≡ suc ((a .addr + (a .len - 1)) / 8 - a .addr / 8) = omega arith in
-    run ∙ sym (ap (touched const-persistence-chunk-size (a .addr)) some)
+    let run : (a .addr + a .len - 1) / C - a .addr / C + 1 ≡ suc ((a .addr + (a .len - 1)) / C - a .addr / C) = omega arith in
+    run ∙ sym (ap (touched C (a .addr)) some)
 
 pub touched-spec : {M : Type 1} → statement M
 touched-spec =
-    tie.close (tie.spec returns (λ c. search needs) (λ c. search needs) (λ c. search needs) (λ c. search needs) returns-2)
+    tie.close (tie.spec empty (λ c. search needs) (λ c. search needs) (λ c. search needs) (λ c. search needs) some-bytes)

@@ -17,60 +17,51 @@ Inv-loop rows at from n sum₀ c₀ left₀ sum c left = (c + left ≡ from + n)
 abbrev μ-loop : tie.MeasureT-loop
 μ-loop rows at from n sum₀ c₀ left₀ sum c left = left
 
+-- the places, from where a turn knows how many bits it takes: the loop's head and the function's entry
+abbrev head : tie.Joined1 Inv-loop μ-loop → tie.At-loop Inv-loop μ-loop
+head c = c .before .before
+
+abbrev start : tie.Joined1 Inv-loop μ-loop → tie.Start Inv-loop μ-loop
+start c = c .before .before .before .before
+
+-- the bits of the row
+abbrev bits : tie.Start Inv-loop μ-loop → ℕ → Bool
+bits c = row-bit (c .args .rows .now) (c .args .at)
+
 -- a turn takes at least one bit, no more than are left, and stays in one byte
-taken : (c : tie.Joined1 Inv-loop μ-loop) → (0 < c .if1 .here) × (c .if1 .here ≤ c .before .before .loop .left) × (c .before .before .loop .c % 8 + c .if1 .here ≤ 8)
+taken : (c : tie.Joined1 Inv-loop μ-loop) → let here = c .if1 .here in
+    (0 < here) × (here ≤ head c .loop .left) × (head c .loop .c % 8 + here ≤ 8)
 taken c = ⊎-elim (λ w. omega arith) (λ w. omega arith) (c .if1 .came)
 
 -- the bits that a turn counts, and those that it leaves, are the bits that were left
-counted : (c : tie.After-ones-among Inv-loop μ-loop) → set-bits (row-bit (c .before .before .before .before .before .before .args .rows .now) (c .before .before .before .before .before .before .args .at)) (c .before .before .before .before .loop .c) (c .before .before .before .before .loop .left) ≡ c .ones-among .result + set-bits (row-bit (c .before .before .before .before .before .before .args .rows .now) (c .before .before .before .before .before .before .args .at)) (c .before .before .before .before .loop .c + c .before .before .if1 .here) (c .before .before .before .before .loop .left - c .before .before .if1 .here)
+counted : (c : tie.After-ones-among Inv-loop μ-loop) → let j = c .before .before in let b = bits (start j) in let l = head j .loop in
+    set-bits b (l .c) (l .left) ≡ c .ones-among .result + set-bits b (l .c + j .if1 .here) (l .left - j .if1 .here)
 counted c =
-    let at-loop = c .before .before .before .before .loop in
-    let a = c .before .before .before .before .before .before .args in
-    let b : ℕ → Bool = row-bit (a .rows .now) (a .at) in
-    let here = c .before .before .if1 .here in
-    let t = taken (c .before .before) in
-    ap (set-bits b (at-loop .c)) (sym (add-sub-of-le (t .1)))
-    ∙ set-bits-add b (at-loop .c) here (at-loop .left - here)
-    ∙ ap (λ (x : ℕ). x + set-bits b (at-loop .c + here) (at-loop .left - here)) (run-in-row (a .rows .now) (a .at) (at-loop .c) here (t .2) ∙ sym (c .ones-among .ensures))
+    let j = c .before .before in
+    let a = start j .args in
+    let b : ℕ → Bool = bits (start j) in
+    let l = head j .loop in
+    let here = j .if1 .here in
+    ap (set-bits b (l .c)) (sym (add-sub-of-le (taken j .1)))
+    ∙ set-bits-add b (l .c) here (l .left - here)
+    ∙ ap (λ (x : ℕ). x + set-bits b (l .c + here) (l .left - here)) (run-in-row (a .rows .now) (a .at) (l .c) here (taken j .2) ∙ sym (c .ones-among .ensures))
 
-loop-holds : tie.Need-loop-holds Inv-loop μ-loop
-loop-holds c = (refl, zero-add _)
-
-add-ones-among : tie.Need-add-ones-among Inv-loop μ-loop
-add-ones-among c = omega (arith, taken c)
-
-shared-slice-read-ones-among : tie.Need-shared-slice-read-ones-among Inv-loop μ-loop
-shared-slice-read-ones-among c = omega (arith, taken (c .before))
-
-ones-among-requires : tie.Need-ones-among-requires Inv-loop μ-loop
-ones-among-requires c κs = taken (c .before) .2
-
-add-sum : tie.Need-add-sum Inv-loop μ-loop
-add-sum c =
-    let at-loop = c .before .before .before .before .loop in
-    let a = c .before .before .before .before .before .before .args in
-    omega (arith, counted c, at-loop .inv .1, set-bits-le (row-bit (a .rows .now) (a .at)) (a .from) (a .n))
-
-add-c : tie.Need-add-c Inv-loop μ-loop
-add-c c = omega (arith, taken (c .before .before .before))
-
-sub-left : tie.Need-sub-left Inv-loop μ-loop
-sub-left c = taken (c .before .before .before) .1
-
-loop-less : tie.Need-loop-less Inv-loop μ-loop
-loop-less c = omega (arith, taken (c .before .before .before))
+sum-fits : tie.Need-add-sum Inv-loop μ-loop
+sum-fits c =
+    let j = c .before .before in
+    omega (arith, counted c, head j .loop .inv .1, set-bits-le (bits (start j)) (start j .args .from) (start j .args .n))
 
 loop-again : tie.Need-loop-again Inv-loop μ-loop
-loop-again c = (omega (arith, taken (c .before .before .before)), omega (arith, counted (c .before), c .before .before .before .before .before .loop .inv .1))
+loop-again c =
+    let j = c .before .before .before in
+    (omega (arith, taken j), omega (arith, counted (c .before), head j .loop .inv .1))
 
-returns : tie.Need-returns Inv-loop μ-loop
+all-counted : tie.Need-returns Inv-loop μ-loop
 unfolding set-bits
-returns c =
-    let at-loop = c .before .loop in
-    let a = c .before .before .before .args in
-    let b : ℕ → Bool = row-bit (a .rows .now) (a .at) in
-    let none : at-loop .left ≡ 0 = omega arith in
-    sym (add-zero (at-loop .sum)) ∙ ap (λ (n : ℕ). at-loop .sum + set-bits b (at-loop .c) n) (sym none) ∙ at-loop .inv .1
+all-counted c =
+    let l = c .before .loop in
+    let none : l .left ≡ 0 = omega arith in
+    sym (add-zero (l .sum)) ∙ ap (λ (n : ℕ). l .sum + set-bits (bits (c .before .before .before)) (l .c) n) (sym none) ∙ l .inv .1
 
 pub set-bits-spec : {M : Type 1} → statement M
 set-bits-spec =
@@ -78,14 +69,14 @@ set-bits-spec =
     (tie.spec
     Inv-loop
     μ-loop
-    loop-holds
+    (λ c. (refl, zero-add _))
     (λ c. omega arith)
-    add-ones-among
-    shared-slice-read-ones-among
-    ones-among-requires
-    add-sum
-    add-c
-    sub-left
-    loop-less
+    (λ c. omega (arith, taken c))
+    (λ c. omega (arith, taken (c .before)))
+    (λ c κs. taken (c .before) .2)
+    sum-fits
+    (λ c. omega (arith, taken (c .before .before .before)))
+    (λ c. taken (c .before .before .before) .1)
+    (λ c. omega (arith, taken (c .before .before .before)))
     loop-again
-    returns)
+    all-counted)
