@@ -7,33 +7,30 @@ use mathlib.Core.List.{List, [], _∷_, _++_}
 use lib.ListN.{length, getD, take, drop, set, length-set, length-drop}
 use lib.Seq.{take-suc, take-suc-set, take-all, getD-drop}
 use Rattle.region.specs.Limits.{writes-limit}
+use Rattle.records.specs.State.{no-record}
 use Rattle.records.specs.declared.state.Record.{Record}
 use Rattle.records.specs.declared.state.State.{State}
 use Rattle.words.specs.Words.{state-words, records-of, record-words, state-of, words-of}
 
--- what stands where there is no record
-abbrev pub no-record : Record
-no-record = record { addr = 0; len = 0 }
-
-pub records-back : (rs : List Record) → records-of (record-words rs) ≡ rs
+records-back : (rs : List Record) → records-of (record-words rs) ≡ rs
 unfolding records-of record-words
 records-back [] = refl
 records-back (r ∷ rs) = ap (λ (l : List Record). r ∷ l) (records-back rs)
 
-pub length-record-words : (rs : List Record) → length (record-words rs) ≡ 2 * length rs
+length-record-words : (rs : List Record) → length (record-words rs) ≡ 2 * length rs
 unfolding record-words
 length-record-words [] = refl
 length-record-words (r ∷ rs) = omega (arith, length-record-words rs)
 
 -- an even number of words says a whole number of records
-pub words-back : (n : ℕ) (words : List ℕ) → length words ≡ 2 * n → record-words (records-of words) ≡ words
+words-back : (n : ℕ) (words : List ℕ) → length words ≡ 2 * n → record-words (records-of words) ≡ words
 unfolding records-of record-words
 words-back n [] e = refl
 words-back n (addr ∷ []) e = absurd (omega arith)
 words-back zero (addr ∷ (len ∷ words)) e = absurd (omega arith)
 words-back (suc n) (addr ∷ (len ∷ words)) e = ap (λ (l : List ℕ). addr ∷ (len ∷ l)) (words-back n words (omega arith))
 
-pub length-records : (n : ℕ) (words : List ℕ) → length words ≡ 2 * n → length (records-of words) ≡ n
+length-records : (n : ℕ) (words : List ℕ) → length words ≡ 2 * n → length (records-of words) ≡ n
 unfolding records-of
 length-records n [] e = omega arith
 length-records n (addr ∷ []) e = absurd (omega arith)
@@ -41,20 +38,20 @@ length-records zero (addr ∷ (len ∷ words)) e = absurd (omega arith)
 length-records (suc n) (addr ∷ (len ∷ words)) e = ap suc (length-records n words (omega arith))
 
 -- the two words of record i
-pub addr-at : (rs : List Record) (i : ℕ) → getD (record-words rs) (2 * i) 0 ≡ getD rs i no-record .addr
+addr-at : (rs : List Record) (i : ℕ) → getD (record-words rs) (2 * i) 0 ≡ getD rs i no-record .addr
 unfolding record-words
 addr-at [] i = refl
 addr-at (r ∷ rs) zero = refl
 addr-at (r ∷ rs) (suc i) = let k : 2 * suc i ≡ suc (suc (2 * i)) = omega arith in ap (λ (j : ℕ). getD (record-words (r ∷ rs)) j 0) k ∙ addr-at rs i
 
-pub len-at : (rs : List Record) (i : ℕ) → getD (record-words rs) (suc (2 * i)) 0 ≡ getD rs i no-record .len
+len-at : (rs : List Record) (i : ℕ) → getD (record-words rs) (suc (2 * i)) 0 ≡ getD rs i no-record .len
 unfolding record-words
 len-at [] i = refl
 len-at (r ∷ rs) zero = refl
 len-at (r ∷ rs) (suc i) = let k : suc (2 * suc i) ≡ suc (suc (suc (2 * i))) = omega arith in ap (λ (j : ℕ). getD (record-words (r ∷ rs)) j 0) k ∙ len-at rs i
 
 -- so a row of words has them too
-pub record-at : (n : ℕ) (words : List ℕ) (i : ℕ) → length words ≡ 2 * n → getD (records-of words) i no-record ≡ record { addr = getD words (2 * i) 0; len = getD words (suc (2 * i)) 0 }
+record-at : (n : ℕ) (words : List ℕ) (i : ℕ) → length words ≡ 2 * n → getD (records-of words) i no-record ≡ record { addr = getD words (2 * i) 0; len = getD words (suc (2 * i)) 0 }
 record-at n words i e =
     let back = words-back n words e in
     ap₂ (λ (addr len : ℕ). record { addr = addr; len = len })
