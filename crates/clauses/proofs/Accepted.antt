@@ -61,7 +61,7 @@ module _ (image : List ℕ) (st : State) (log : List ℕ) (a : Accepted image st
   recorded : (addr : ℕ) (bytes : List ℕ) → Room (length image) st addr (length bytes) → Accepted image (appended st addr (length bytes)) (update-bytes log (together (log-records st)) bytes)
   recorded addr bytes r =
       record {
-        sized = sized-of-appended st addr (length bytes) (a .sized) (r .few);
+        sized = sized-of-appended st addr (length bytes) (a .sized);
         good = facts-sound _ _ _ (sound-after-recorded image st log addr bytes (a .sized) facts r);
       }
 

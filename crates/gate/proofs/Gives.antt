@@ -81,7 +81,7 @@ module _ (image : List ℕ) (st : State) (log sheet work : List ℕ) (addr : ℕ
       let seen = view-of-recorded image st log addr bytes sized facts room in (
         seen,
         record {
-          sized = sized-of-appended st addr (length bytes) sized (f .few-writes);
+          sized = sized-of-appended st addr (length bytes) sized;
           facts = sound-after-recorded image st log addr bytes sized facts room;
           all-obey = λ x h. all x (subst (λ (v : AsyncView). can-crash const-persistence-chunk-size v x) seen h);
         },

@@ -6,7 +6,7 @@ use mathlib.Core.Path.{_≡_, refl, sym, ap, _∙_}
 use mathlib.Core.Bool.{Bool, true, false, cond}
 use mathlib.Core.List.{List}
 use lib.Dec.{eqb}
-use lib.ListN.{length, length-set}
+use lib.ListN.{length}
 use borrow.Author.Tests.{eqb-true}
 use Rattle.region.specs.Limits.{writes-limit}
 use Rattle.region.specs.Pmemspec.{update-bytes}
@@ -15,6 +15,7 @@ use Rattle.region.specs.declared.Answer.{Answer}
 use Rattle.replay.specs.AsyncSpec.{readable}
 use Rattle.records.specs.State.{view, log-records, together, appended, emptied}
 use Rattle.records.specs.declared.state.State.{State}
+use Rattle.records.proofs.Views.{sized-of-appended}
 use Rattle.writelog.specs.Write.{write-number, Writes}
 use Rattle.writelog.specs.Read.{read-number, Fills}
 use Rattle.writelog.specs.Flush.{flush-number, Flushes}
@@ -52,7 +53,7 @@ module _ (words : List ℕ) (sized : length words ≡ state-words) where
   pub sized-recorded : (n addr len : ℕ) {words′ : List ℕ} → words′ ≡ if-done n (words-of (appended (state-of words) addr len)) words → length words′ ≡ state-words
   sized-recorded n addr len =
       sized-by n (appended (state-of words) addr len)
-      (length-set (state-of words .records) (state-of words .count) (record { addr = addr; len = len }) ∙ said-length words sized)
+      (sized-of-appended (state-of words) addr len (said-length words sized))
 
   pub sized-emptied : (n : ℕ) {words′ : List ℕ} → words′ ≡ if-done n (words-of (emptied (state-of words))) words → length words′ ≡ state-words
   sized-emptied n = sized-by n (emptied (state-of words)) (said-length words sized)

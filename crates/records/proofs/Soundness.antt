@@ -43,7 +43,10 @@ module _ (L : ℕ) (st : State) (log-length : ℕ) where
   pub facts-sound : Sound L st log-length → sound L st log-length ≡ true
   unfolding sound
   facts-sound s =
-      both-true (both-true (both-true (both-true (le-leb L image-limit (s .short)) (eq-eqb log-length log-limit (s .buffer))) (le-leb (st .count) writes-limit (s .few))) (s .inside)) (le-leb (together (log-records st)) log-limit (s .room))
+      let f₁ = both-true (le-leb L image-limit (s .short)) (eq-eqb log-length log-limit (s .buffer)) in
+      let f₂ = both-true f₁ (le-leb (st .count) writes-limit (s .few)) in
+      let f₃ = both-true f₂ (s .inside) in
+      both-true f₃ (le-leb (together (log-records st)) log-limit (s .room))
 
   pub facts-unsound : (Sound L st log-length → ⊥) → sound L st log-length ≡ false
   facts-unsound n = go (sound L st log-length) refl
@@ -58,16 +61,25 @@ module _ (L : ℕ) (st : State) (log-length : ℕ) where
     pub facts : Sound L st log-length
     pub counted : used ≡ together (log-records st)
 
-  pub told-bytes : {r : Outstanding} {used : ℕ} → r ≡ cond (sound L st log-length) (Bytes (together (log-records st))) Unsound → r ≡ Bytes used → Told used
+  abbrev answer : Outstanding
+  answer = cond (sound L st log-length) (Bytes (together (log-records st))) Unsound
+
+  answer-when : sound L st log-length ≡ true → answer ≡ Bytes (together (log-records st))
+  answer-when = cond-when (sound L st log-length) (Bytes (together (log-records st))) Unsound
+
+  answer-unless : sound L st log-length ≡ false → answer ≡ Unsound
+  answer-unless = cond-unless (sound L st log-length) (Bytes (together (log-records st))) Unsound
+
+  pub told-bytes : {r : Outstanding} {used : ℕ} → r ≡ answer → r ≡ Bytes used → Told used
   told-bytes {r} {used} e b = go (sound L st log-length) refl
     where
       go : (t : Bool) → sound L st log-length ≡ t → Told used
-      go true s = record { good = s; facts = sound-facts s; counted = let p : Bytes used ≡ Bytes (together (log-records st)) = sym b ∙ e ∙ cond-when (sound L st log-length) (Bytes (together (log-records st))) Unsound s in cc }
-      go false s = let p : Bytes used ≡ Unsound = sym b ∙ e ∙ cond-unless (sound L st log-length) (Bytes (together (log-records st))) Unsound s in let z : _≡_ {A = ℕ} 0 1 = cc in absurd (omega arith)
+      go true s = let p : Bytes used ≡ Bytes (together (log-records st)) = sym b ∙ e ∙ answer-when s in record { good = s; facts = sound-facts s; counted = cc }
+      go false s = let p : Bytes used ≡ Unsound = sym b ∙ e ∙ answer-unless s in let z : _≡_ {A = ℕ} 0 1 = cc in absurd (omega arith)
 
-  pub told-unsound : {r : Outstanding} → r ≡ cond (sound L st log-length) (Bytes (together (log-records st))) Unsound → r ≡ Unsound → sound L st log-length ≡ false
+  pub told-unsound : {r : Outstanding} → r ≡ answer → r ≡ Unsound → sound L st log-length ≡ false
   told-unsound {r} e b = go (sound L st log-length) refl
     where
       go : (t : Bool) → sound L st log-length ≡ t → sound L st log-length ≡ false
-      go true s = let p : Unsound ≡ Bytes (together (log-records st)) = sym b ∙ e ∙ cond-when (sound L st log-length) (Bytes (together (log-records st))) Unsound s in let z : _≡_ {A = ℕ} 0 1 = cc in absurd (omega arith)
+      go true s = let p : Unsound ≡ Bytes (together (log-records st)) = sym b ∙ e ∙ answer-when s in let z : _≡_ {A = ℕ} 0 1 = cc in absurd (omega arith)
       go false s = s

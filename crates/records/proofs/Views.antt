@@ -1,61 +1,47 @@
 -- What the calls do to the view: the plain write's own step puts the write to the end of the log, as `write` of pmem_async_spec_t.rs does, and a sound
 -- state stays sound; an emptied log has no writes. Assumes nothing.
-use Prim.Native.Nat.{ℕ, zero, suc, _+_, _-_, _≤_, _<_}
-use native.Mathlib.Nat.{add-sub-cancel-left, suc-add, zero-add}
+use Prim.Native.Nat.{ℕ, zero, suc, _+_, _≤_, _<_}
+use native.Mathlib.Nat.{suc-add, zero-add}
 use native.Mathlib.Numerals.{add-one}
 use native.Mathlib.Omega.{arith}
 use mathlib.Core.Path.{_≡_, refl, sym, ap, ap₂, subst, subst⁻¹, _∙_}
 use mathlib.Core.Bool.{true}
 use mathlib.Core.List.{List, [], _∷_, _++_}
 use lib.Dec.{leb}
-use lib.ListN.{length, getD, take, drop, set, length-set, length-drop}
-use lib.Seq.{ext-getD, getD-take, getD-drop, take-nil, take-take, drop-drop, take-suc-set, length-take-le}
+use lib.ListN.{length, getD, take, drop, set, length-set}
+use lib.Seq.{ext-getD, getD-take, take-nil, take-take, drop-drop, take-suc-set, length-take-le}
 use borrow.Author.Tests.{le-leb}
 use Rattle.region.specs.Limits.{image-limit, writes-limit, log-limit}
 use Rattle.region.specs.Pmemspec.{update-bytes}
 use Rattle.region.proofs.Booleans.{both, both-true}
 use Rattle.replay.specs.AsyncSpec.{Write, write}
-use Rattle.replay.proofs.Laid.{update-is-lay, length-lay, lay-in, lay-below}
+use Rattle.replay.proofs.Laid.{update-is-lay, length-update, lay-below, update-reads-back}
 use Rattle.records.specs.State.{log-records, together, records-inside, writes-of, view, appended, emptied}
 use Rattle.records.specs.declared.state.Record.{Record}
 use Rattle.records.specs.declared.state.State.{State}
 use Rattle.records.proofs.Soundness.{Sound, Room}
 
--- the bytes below a place are untouched by what is laid there, and what is laid there is found there
-module _ (log : List ℕ) (at : ℕ) (bytes : List ℕ) (fits : at + length bytes ≤ length log) where
-  pub length-laid : length (update-bytes log at bytes) ≡ length log
-  length-laid = ap length (update-is-lay log at bytes) ∙ length-lay (λ i. true) log at bytes
-
-  pub laid-behind : take at (update-bytes log at bytes) ≡ take at log
-  laid-behind =
-      let long : length (take at (update-bytes log at bytes)) ≡ at = length-take-le at (update-bytes log at bytes) (omega (arith, length-laid)) in
-      ext-getD 0 (take at (update-bytes log at bytes)) (take at log) (long ∙ sym (length-take-le at log (omega arith)))
-      (λ i h.
-      let g : i < at = subst (λ (n : ℕ). i < n) long h in
-      getD-take at (update-bytes log at bytes) i 0 g
-      ∙ ap (λ (l : List ℕ). getD l i 0) (update-is-lay log at bytes)
-      ∙ lay-below (λ i. true) log at bytes i (omega arith) g
-      ∙ sym (getD-take at log i 0 g))
-
-  pub laid-there : take (length bytes) (drop at (update-bytes log at bytes)) ≡ bytes
-  laid-there =
-      let long : length (take (length bytes) (drop at (update-bytes log at bytes))) ≡ length bytes = length-take-le (length bytes) (drop at (update-bytes log at bytes)) (omega (arith, length-laid, length-drop at (update-bytes log at bytes))) in
-      ext-getD 0 (take (length bytes) (drop at (update-bytes log at bytes))) bytes long
-      (λ i h.
-      let g : i < length bytes = subst (λ (n : ℕ). i < n) long h in
-      getD-take (length bytes) (drop at (update-bytes log at bytes)) i 0 g
-      ∙ getD-drop at (update-bytes log at bytes) i 0
-      ∙ ap (λ (l : List ℕ). getD l (at + i) 0) (update-is-lay log at bytes)
-      ∙ lay-in (λ i. true) log at bytes (at + i) (omega arith) (omega arith) (omega arith)
-      ∙ ap (λ (k : ℕ). getD bytes k 0) (add-sub-cancel-left at i))
+-- the bytes below a place are untouched by what is laid there
+laid-behind : (log : List ℕ) (at : ℕ) (bytes : List ℕ) → at ≤ length log → take at (update-bytes log at bytes) ≡ take at log
+laid-behind log at bytes fits =
+    let long : length (take at (update-bytes log at bytes)) ≡ at = length-take-le at (update-bytes log at bytes) (omega (arith, length-update log at bytes)) in
+    ext-getD 0 (take at (update-bytes log at bytes)) (take at log) (long ∙ sym (length-take-le at log fits))
+    (λ i h.
+    let g : i < at = subst (λ (n : ℕ). i < n) long h in
+    getD-take at (update-bytes log at bytes) i 0 g
+    ∙ ap (λ (l : List ℕ). getD l i 0) (update-is-lay log at bytes)
+    ∙ lay-below (λ i. true) log at bytes i (omega arith) g
+    ∙ sym (getD-take at log i 0 g))
 
 -- the writes go by the bytes that the records count
 writes-agree : (rs : List Record) (l l′ : List ℕ) → take (together rs) l ≡ take (together rs) l′ → writes-of rs l ≡ writes-of rs l′
 unfolding writes-of together
 writes-agree [] l l′ e = refl
 writes-agree (r ∷ rs) l l′ e =
-    let here : take (r .len) l ≡ take (r .len) l′ = sym (take-take (r .len) (r .len + together rs) l (omega arith)) ∙ ap (take (r .len)) e ∙ take-take (r .len) (r .len + together rs) l′ (omega arith) in
-    ap₂ (λ (b : List ℕ) (ws : List Write). record { addr = r .addr; bytes = b } ∷ ws) here (writes-agree rs (drop (r .len) l) (drop (r .len) l′) (later (r .len) (together rs) l l′ e))
+    let n = r .len + together rs in
+    let here : take (r .len) l ≡ take (r .len) l′ = sym (take-take (r .len) n l (omega arith)) ∙ ap (take (r .len)) e ∙ take-take (r .len) n l′ (omega arith) in
+    ap₂ (λ (b : List ℕ) (ws : List Write). record { addr = r .addr; bytes = b } ∷ ws) here
+    (writes-agree rs (drop (r .len) l) (drop (r .len) l′) (later (r .len) (together rs) l l′ e))
   where
     drop-take : (a t : ℕ) (l : List ℕ) → drop a (take (a + t) l) ≡ take t (drop a l)
     drop-take zero t l = ap (λ (k : ℕ). take k l) (zero-add t)
@@ -77,16 +63,18 @@ inside-last L [] r e h = both-true (le-leb (r .addr + r .len) L h) refl
 inside-last L (x ∷ rs) r e h = let parts = both (leb (x .addr + x .len) L) (records-inside L rs) e in
     both-true {a = leb (x .addr + x .len) L} (parts .0) (inside-last L rs r (parts .1) h)
 
-writes-last : (rs : List Record) (r : Record) (l : List ℕ) → writes-of (rs ++ (r ∷ [])) l ≡ writes-of rs l ++ (record { addr = r .addr; bytes = take (r .len) (drop (together rs) l) } ∷ [])
+writes-last : (rs : List Record) (r : Record) (l : List ℕ)
+    → writes-of (rs ++ (r ∷ [])) l ≡ writes-of rs l ++ (record { addr = r .addr; bytes = take (r .len) (drop (together rs) l) } ∷ [])
 unfolding writes-of together
 writes-last [] r l = refl
 writes-last (x ∷ rs) r l =
     ap (λ (ws : List Write). record { addr = x .addr; bytes = take (x .len) l } ∷ ws)
-    (writes-last rs r (drop (x .len) l) ∙ ap (λ (k : List ℕ). writes-of rs (drop (x .len) l) ++ (record { addr = r .addr; bytes = take (r .len) k } ∷ [])) (drop-drop (together rs) (x .len) l))
+    (writes-last rs r (drop (x .len) l)
+    ∙ ap (λ (k : List ℕ). writes-of rs (drop (x .len) l) ++ (record { addr = r .addr; bytes = take (r .len) k } ∷ [])) (drop-drop (together rs) (x .len) l))
 
-module _ (st : State) (addr n : ℕ) (sized : length (st .records) ≡ writes-limit) (few : st .count < writes-limit) where
-  pub records-of-appended : log-records (appended st addr n) ≡ log-records st ++ (record { addr = addr; len = n } ∷ [])
-  records-of-appended =
+module _ (st : State) (addr n : ℕ) (sized : length (st .records) ≡ writes-limit) where
+  pub records-of-appended : st .count < writes-limit → log-records (appended st addr n) ≡ log-records st ++ (record { addr = addr; len = n } ∷ [])
+  records-of-appended few =
       ap (λ (k : ℕ). take k (set (st .records) (st .count) (record { addr = addr; len = n }))) (add-one (st .count))
       ∙ take-suc-set (st .records) (st .count) (record { addr = addr; len = n }) (omega arith)
 
@@ -130,11 +118,13 @@ module _ (image : List ℕ) (st : State) (log : List ℕ) (addr : ℕ) (bytes : 
       ap (λ (ws : List Write). record { state-at-last-flush = image; outstanding-writes = ws })
       (ap (λ (rs : List Record). writes-of rs (update-bytes log at bytes)) (records-of-appended st addr (length bytes) sized (r .few))
       ∙ writes-last (log-records st) new (update-bytes log at bytes)
-      ∙ ap₂ (λ (ws : List Write) (b : List ℕ). ws ++ (record { addr = addr; bytes = b } ∷ [])) (writes-agree (log-records st) (update-bytes log at bytes) log (laid-behind log at bytes fits-log)) (laid-there log at bytes fits-log))
+      ∙ ap₂ (λ (ws : List Write) (b : List ℕ). ws ++ (record { addr = addr; bytes = b } ∷ []))
+      (writes-agree (log-records st) (update-bytes log at bytes) log (laid-behind log at bytes (omega (arith, fits-log))))
+      (update-reads-back log at bytes fits-log))
 
   pub sound-after-recorded : Sound (length image) (appended st addr (length bytes)) (length (update-bytes log (together (log-records st)) bytes))
   sound-after-recorded =
-      subst⁻¹ (Sound (length image) (appended st addr (length bytes))) (length-laid log at bytes fits-log)
+      subst⁻¹ (Sound (length image) (appended st addr (length bytes))) (length-update log at bytes)
       (sound-of-appended (length image) st (length log) addr (length bytes) sized s r)
 
 -- an empty log

@@ -2,13 +2,17 @@
 use Prim.Native.Nat.{ℕ, _+_, _-_, _≤_, _<_}
 use native.Mathlib.Nat.{add-sub-cancel-left, min-le-left, sub-self, le-refl}
 use native.Mathlib.Omega.{arith}
-use mathlib.Core.Path.{_≡_, sym, ap, ap₂, _∙_}
+use mathlib.Core.Path.{_≡_, sym, ap, ap₂, subst, _∙_}
 use mathlib.Core.List.{List, [], _∷_}
 use lib.ListN.{length, take, drop, length-take}
 use lib.Seq.{drop-drop}
 use borrow.Author.Tests.{leb-true}
-use Rattle.region.specs.Limits.{writes-limit}
+use Rattle.region.specs.Limits.{writes-limit, const-persistence-chunk-size}
+use Rattle.region.specs.Pmemspec.{update-bytes}
 use Rattle.region.proofs.Booleans.{both}
+use Rattle.replay.specs.AsyncSpec.{Write, size-to-chunks, apply-write-selective, committed, flush-writes, flush-writes-selective}
+use Rattle.replay.specs.Rows.{row-at, rows-at, row-bytes}
+use Rattle.replay.proofs.RowBits.{rows-at-more}
 use Rattle.records.specs.State.{log-records, together, records-inside, writes-of}
 use Rattle.records.specs.Log.{last-records, last-writes, Remaining}
 use Rattle.records.specs.declared.state.Record.{Record}
@@ -46,7 +50,6 @@ module _ (L : ℕ) (st : State) (n at left : ℕ) (r : Remaining L st n at left)
 
   pub step : 0 < left → Step L st n at left
   step p =
-      let i : ℕ = st .count - left in
       let h : st .count - left < st .count = omega (arith, r .some) in
       let l : st .count ≤ length (st .records) = omega (arith, r .sized, r .few) in
       let follow : st .count - left + 1 ≡ st .count - (left - 1) = omega (arith, r .some) in
@@ -57,9 +60,46 @@ module _ (L : ℕ) (st : State) (n at left : ℕ) (r : Remaining L st n at left)
         index = omega (arith, r .few);
         lies = leb-true (oldest st left .addr + oldest st left .len) L (in-both .0);
         has = omega (arith, sum, r .room);
-        after = record { sized = r .sized; few = r .few; some = omega (arith, r .some); inside = ap (λ (k : ℕ). records-inside L (drop k (log-records st))) (sym follow) ∙ in-both .1; room = omega (arith, sum, r .room) };
-        writes = λ log. writes-more st (st .count - left) h l (drop at log) ∙ ap₂ (λ (k : ℕ) (bytes : List ℕ). record { addr = oldest st left .addr; bytes = take (oldest st left .len) (drop at log) } ∷ writes-of (drop k (log-records st)) bytes) follow (drop-drop (oldest st left .len) at log);
+        after = record {
+          sized = r .sized;
+          few = r .few;
+          some = omega (arith, r .some);
+          inside = ap (λ (k : ℕ). records-inside L (drop k (log-records st))) (sym follow) ∙ in-both .1;
+          room = omega (arith, sum, r .room);
+        };
+        writes = λ log.
+            writes-more st (st .count - left) h l (drop at log)
+            ∙ ap₂ (λ (k : ℕ) (bytes : List ℕ). record { addr = oldest st left .addr; bytes = take (oldest st left .len) (drop at log) } ∷ writes-of (drop k (log-records st)) bytes)
+            follow (drop-drop (oldest st left .len) at log);
       }
+
+-- where the record at that index is the one that was looked up
+pub step-by : {L : ℕ} {st : State} {n at left : ℕ} {r : Record} → Remaining L st n at left → 0 < left → r ≡ oldest st left → StepBy L st n at left r
+step-by {L} {st} {n} {at} {left} remain some e = subst (StepBy L st n at left) (sym e) (step L st n at left remain some)
+
+-- a step of each replay: what the writes after the oldest give over the image with that one laid is what they all give
+module _ {L : ℕ} {st : State} {n at left : ℕ} {r : Record} (s : StepBy L st n at left r) (log work : List ℕ) {laid : List ℕ} where
+  pub whole-step : laid ≡ update-bytes work (r .addr) (take (at + r .len - at) (drop at log))
+      → committed (flush-writes laid (last-writes st (left - 1) log (at + r .len))) ≡ committed (flush-writes work (last-writes st left log at))
+  unfolding flush-writes
+  whole-step e =
+      ap (λ (w : List ℕ). committed (flush-writes w (last-writes st (left - 1) log (at + r .len)))) (e ∙ ap (update-bytes work (r .addr)) (piece-is at (r .len) log))
+      ∙ sym (ap (λ (ws : List Write). committed (flush-writes work ws)) (s .writes log))
+
+  pub selected-step : (rows : List ℕ) (row width : ℕ) → let C = const-persistence-chunk-size in let K = size-to-chunks C (length work) in
+      0 < left → width ≡ row-bytes K → length laid ≡ length work
+      → laid ≡ apply-write-selective C work (record { addr = r .addr; bytes = take (at + r .len - at) (drop at log) }) (row-at K rows row)
+      → flush-writes-selective C laid (last-writes st (left - 1) log (at + r .len)) (rows-at (size-to-chunks C (length laid)) (left - 1) rows (row + width))
+      ≡ flush-writes-selective C work (last-writes st left log at) (rows-at K left rows row)
+  unfolding flush-writes-selective
+  selected-step rows row width some wide same e =
+      let C = const-persistence-chunk-size in
+      let K = size-to-chunks C (length work) in
+      let writes = last-writes st (left - 1) log (at + r .len) in
+      ap₂ (λ (n w : ℕ). flush-writes-selective C laid writes (rows-at (size-to-chunks C n) (left - 1) rows (row + w))) same wide
+      ∙ ap (λ (x : List ℕ). flush-writes-selective C x writes (rows-at K (left - 1) rows (row + row-bytes K)))
+      (e ∙ ap (λ (bytes : List ℕ). apply-write-selective C work (record { addr = r .addr; bytes = bytes }) (row-at K rows row)) (piece-is at (r .len) log))
+      ∙ sym (ap₂ (flush-writes-selective C work) (s .writes log) (rows-at-more K left rows row some))
 
 -- a walk over the whole log of a sound state
 module _ (L : ℕ) (st : State) (n : ℕ) where

@@ -24,7 +24,7 @@ use Rattle.tape.specs.Predictable.{Predictable}
 use Rattle.tape.specs.Write.{or-else, tape-sound, tape-room-number, tape-write-number}
 use Rattle.tape.specs.Ending.{as-foretold, ending-number}
 use Rattle.tape.proofs.EpochLaws.{Epoch, epoch-facts}
-use Rattle.records.proofs.Views.{sound-of-appended}
+use Rattle.records.proofs.Views.{sized-of-appended, sound-of-appended}
 
 -- a number, or what comes after it
 go-on : {n : ℕ} (rest : ℕ) → n ≡ 0 → or-else n rest ≡ rest
@@ -83,10 +83,7 @@ module _ (L : ℕ) (st : State) (log-length predicted-length : ℕ) where
     pub predictable-with : length (st .records) ≡ writes-limit → Sound L st log-length → predicted-length ≡ L → TapeRoom → Predictable L (appended st addr n) log-length tape start predicted-length
     predictable-with sized s same r =
         let after = sound-of-appended L st log-length addr n sized s (r .room) in
-        record { short = s .short; walk = all-remain L (appended st addr n) log-length (appended-sized sized) after; sized = same; rows = r .epoch .there .fits }
-      where
-        appended-sized : length (st .records) ≡ writes-limit → length (appended st addr n .records) ≡ writes-limit
-        appended-sized e = lib.ListN.length-set (st .records) (st .count) (record { addr = addr; len = n }) ∙ e
+        record { short = s .short; walk = all-remain L (appended st addr n) log-length (sized-of-appended st addr n sized) after; sized = same; rows = r .epoch .there .fits }
 
   -- an ending
   module _ (flushing : Bool) (tape : List ℕ) (start : ℕ) where

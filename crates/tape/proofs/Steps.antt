@@ -5,7 +5,7 @@ use native.Mathlib.Omega.{arith}
 use mathlib.Core.Path.{_≡_, refl, sym, ap, ap₂, subst⁻¹, _∙_}
 use mathlib.Core.Bool.{true, false}
 use mathlib.Core.List.{List, []}
-use lib.ListN.{length, length-set}
+use lib.ListN.{length}
 use Rattle.region.specs.Limits.{writes-limit, const-persistence-chunk-size}
 use Rattle.region.specs.Answer.{if-done}
 use Rattle.region.specs.View.{can-result-from-write, flush-predicted}
@@ -23,7 +23,7 @@ use Rattle.tape.specs.Write.{tape-write-number, predicted-with, TapeWrit
 use Rattle.tape.specs.Ending.{next-start, predicted-now}
 use Rattle.tape.specs.Flush.{tape-flush-number, TapeFlushes}
 use Rattle.tape.specs.Cut.{tape-cut-number, TapeCuts}
-use Rattle.records.proofs.Views.{view-of-recorded, writes-counted}
+use Rattle.records.proofs.Views.{sized-of-appended, view-of-recorded, writes-counted}
 use Rattle.tape.proofs.NumberLaws.{tape-write-done, ending-done}
 use Rattle.tape.proofs.Foretells.{predicted-of-nothing, foretold-of-a-write, foretold-flush-is-predicted, foretold-cut-is-a-crash}
 use Rattle.tape.proofs.PredictLaws.{predicted-flush}
@@ -63,7 +63,7 @@ module _ (image : List ℕ) (st : State) (log tape : List ℕ) (start : ℕ) (pr
       let after : view image st′ log′ ≡ write v addr bytes = ap₂ (view image) s l ∙ whole in
       record {
         view-after = after;
-        sized-after = ap (λ t. length (t .records)) s ∙ length-set (st .records) (st .count) (record { addr = addr; len = length bytes }) ∙ sized;
+        sized-after = ap (λ t. length (t .records)) s ∙ sized-of-appended st addr (length bytes) sized;
         predicted-after = came-true (predicted-with image st log tape start addr bytes) predicted none (p .predicted-after) ∙ ap (predicted-image C tape start) whole;
         foretold-after = subst⁻¹ (λ w. can-result-from-write C (foretold C tape start w) (foretold C tape start v) addr bytes) after (foretold-of-a-write C tape start v addr bytes);
       }
