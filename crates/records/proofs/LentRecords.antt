@@ -1,5 +1,5 @@
--- The records of a state that lies in memory, as a row that can be lent: they are taken out of the state's cell, and others of the same number are put back.
--- Assumes nothing.
+-- The records of a state that lies in memory, as a row that can be lent: they are taken out of the state's cell, and others of the same number are put
+-- back. Assumes nothing.
 use mathlib.Core.Path.{_≡_, refl, sym, _∙_, ap, subst}
 use Prim.Native.Nat.{ℕ, _<_, _^_}
 use mathlib.Core.List.{List, [], _∷_, map}
@@ -24,7 +24,6 @@ use denote.ArrayMemory.{array-apart, array-whole}
 use denote.Index.{row}
 use denote.Slice.{Room}
 use denote.Steps.{owned, peeks}
-use denote.Struct.Laws as LL
 use Rattle.region.specs.Limits.{writes-limit}
 use Rattle.records.specs.declared.state.Record.{Record}
 use Rattle.records.specs.declared.state.State.{State}
@@ -59,7 +58,8 @@ records-are st p = subst (Is Records (st .records)) (array-tells R vals tells wr
     is : Is Records (st .records) (p .0 .1 .0)
     is = let a = p .1 .1 .1 .0 in (a .0, ((a .1 .0 .0, sym (length-map (st .records) (T.the-field .into)) ∙ a .1 .0 .1), subst shadow (each-same (st .records) (a .0)) (a .1 .1)))
 
-pub state-is : (n : ℕ) → n < 2 ^ 64 → (xs : List Record) → Is Records xs (of-list xs ∷ []) → Is S.the-row (record { count = n; records = xs }) (S′.lowered (record { count = n; records = xs }) ∷ [])
+pub state-is : (n : ℕ) → n < 2 ^ 64 → (xs : List Record) → Is Records xs (of-list xs ∷ [])
+    → Is S.the-row (record { count = n; records = xs }) (S′.lowered (record { count = n; records = xs }) ∷ [])
 state-is n fits xs a = (
   (vint w64 n ∷ [], (of-list xs ∷ [], tt)),
   (refl, ((refl, fits), ((a .0, ((a .1 .0 .0, length-map xs (T.the-field .into) ∙ a .1 .0 .1), subst shadow (sym (each-same xs (a .0))) (a .1 .1))), tt))),

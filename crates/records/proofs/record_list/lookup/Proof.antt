@@ -1,6 +1,5 @@
--- `lookup` meets its contract: a walk of its MIR, by hand. Where i is below the length, the place of `records[i]` is i records past the slice's pointer, and the record is read there;
--- elsewhere the zero record is made, which is what `getD` gives past the end.
--- Assumes nothing.
+-- `lookup` meets its contract: a walk of its MIR, by hand. Where i is below the length, the place of `records[i]` is i records past the slice's pointer,
+-- and the record is read there; elsewhere the zero record is made, which is what `getD` gives past the end. Assumes nothing.
 use mathlib.Core.Path.{_≡_, refl, sym}
 use Prim.Native.Nat.{ℕ, _<_, _*_, _^_}
 use mathlib.Core.List.{List, [], _∷_}
@@ -20,13 +19,14 @@ use contract.Monad.{Fun}
 use contract.Running.{givenOf, tables, tablesOf}
 use types.Kit.{Given, ‵, _⊛_, ⋆, _$_, _∵_, !, qed, by, move, keep, split, join, rewrite, fsplit, fjoin, suffices, frame, done}
 use types.Part.{whole, sub, look-in, agg}
-use types.Run.{look, look-raw, init, forget, stop, hop, fld, from, load, lit, and-then, no-more, of-opd, bin, assigns, returns, returns-within, enter, alloc1, alloc0, params1, pass1, pass0, free1, free0}
+use types.Run.{look, look-raw, init, stop, hop, fld, from, load, lit, and-then, no-more, of-opd, bin, returns, returns-within, enter, alloc1, alloc0, params1, pass1, pass0, free0}
 use sound.WpLaws.{WpFn-mono}
 use denote.RattleType.{owns}
 use denote.Laws.{Is, shows}
 use denote.Plain.{uint-vals, uint-tells}
 use denote.Builtin.{usize}
 use denote.Index.{place-is, elem-out, elem-back, looks-slice, shuts-slice}
+use denote.Ref.{RefT}
 use denote.Signature.{plain}
 use denote.Slice.{sliceVal, ShrSlice, Room, slice-vals, shr-slice-tells}
 use denote.Steps.{owned, nothing}
@@ -37,7 +37,7 @@ use denote.Triple.Walked.{says, Stays, stay-none-slice, stay-none, walkOf, goes-
 use denote.Exit.{yes}
 use Rattle.records.specs.State.{no-record}
 use Rattle.records.specs.declared.state.Record.{Record}
-use Rattle.records.proofs.Branch.{returns-if}
+use Rattle.records.proofs.Branch.{local, sets, frees-room, frees-cell, returns-if}
 use Rattle.records.proofs.RecordRow.{R, val, vals, tells, made, bytes, inside, makes, copies, typed}
 use Rattle.records.proofs.record_list.lookup.Key.{name as #lookup}
 use Rattle.records.proofs.record_list.lookup as lookup
@@ -50,67 +50,83 @@ zeros = made no-record (lit< tt) (lit< tt)
 abbrev stayed : Stays (lookup.ended .signature .params) (lookup.ended .kept)
 stayed = (stay-none-slice (0 ∷ []) tt (plain (λ _. R)) yes, (stay-none (λ _. usize) yes, tt))
 
-module _ {M : Type 1} (𝓤 : URA M) (H : Heap 𝓤) (A : Atoms 𝓤) (W : Given 𝓤 H A) (mem : Memory → SProp 𝓤) (run : Routine → Fun 𝓤) (κ : Lft) (q : Share) (b o : ℕ) (γ : GName) (ys : List Record) (i : ℕ) where
-  abbrev at : Vals lookup.signature (κ, tt)
-  at = (sliceVal (b, o) (length ys) ∷ [], (vint w64 i ∷ [], tt))
-
-  abbrev Own : Fml
-  Own = ShrSlice (named 0) κ R .own (record { ptr = (b, o); name = γ; now = ys }) (at .0)
-
-  abbrev bound : walkOf 𝓤 H A lookup.ended stayed (lookup.clauses 𝓤 H A mem run) .Ghost
-  bound = (((κ, tt), (q, tt), tt, (record { ptr = (b, o); name = γ; now = ys }, (i, tt)), at), tt)
-
-  abbrev Post : Val → SProp 𝓤
-  Post = walkOf 𝓤 H A lookup.ended stayed (lookup.clauses 𝓤 H A mem run) .post bound
-
-  exits : (r : Record) → r ≡ getD ys i no-record → Is R r (vals r) → ent 𝓤 (⋆ 𝓤 H A (‵ (flft κ q) ∷ ‵ Own ∷ ‵ (usize .own i (vint w64 i ∷ [])) ∷ [])) (Post (val r))
-  exits r e is =
-      qed W (‵ (flft κ q) ∷ ‵ Own ∷ ‵ (usize .own i (vint w64 i ∷ [])) ∷ []) ∵
-      suffices ! _ (ends-at 𝓤 H A lookup.ended stayed (lookup.clauses 𝓤 H A mem run) W bound (val r) r (tt, (tt, tt)) (tt, (tt, tt))) $ says ! e $
-      nothing ! $ move ! (1 ∷ 0 ∷ []) $ join ! $ nothing ! $ move ! (3 ∷ 0 ∷ []) $ fjoin ! $ move ! (2 ∷ 0 ∷ []) $ fjoin ! $ move ! (1 ∷ 0 ∷ []) $
-      frame ! $ frame ! $ owned ! R (Is R) (makes 𝓤 H A) r _ is $ done !
-
-  module _ (C : Calls 𝓤 H) (Λ : Loops 𝓤 H) where
-    walk : Room R (length ys) → i < 2 ^ 64 → ent 𝓤 (onEntry 𝓤 H A lookup.signature (κ, tt) (q, tt) (record { ptr = (b, o); name = γ; now = ys }, (i, tt)) at)
-        (WpFn 𝓤 H C Λ code.function (sliceVal (b, o) (length ys) ∷ vint w64 i ∷ []) Post)
-    walk gn gi =
-        qed W ((‵ (flft κ q) ⊛ ‵ ftrue) ∷ ‵ (owns (ShrSlice (named 0) κ R ∷ usize ∷ []) (record { ptr = (b, o); name = γ; now = ys }, (i, tt)) at) ∷ []) ∵
-        enter ! C Λ code.function (sliceVal (b, o) (length ys) ∷ vint w64 i ∷ []) _ $
-        alloc1 ! (λ l₀. alloc1 ! (λ l₁. alloc1 ! (λ l₂. alloc1 ! (λ l₃. alloc1 ! (λ l₄. alloc1 ! (λ l₅. alloc1 ! (λ l₆. alloc1 ! (λ l₇. alloc0 ! $ params1 ! $
-        pass1 ! (init ! 12 refl (tt, (tt, (record { fits = gn .0 }, tt)))) $ pass1 ! (init ! 10 refl (tt, record { fits = gi })) $ pass0 ! $
-        -- [_7; …; _6; …; _5; …; _4; …; _3; …; _2; …; _1; …; _0; …; the token; what the parameters own]
-        assigns ! (of-opd ! (load ! (from ! (fld ! refl (stop !))) (look-in ! 12 (sub ! 1 refl (whole !))))) (from ! (stop !)) (init ! 8 refl (tt, record { fits = gn .0 })) $
-        assigns ! (bin ! (load ! (from ! (stop !)) (look ! 10 refl)) (load ! (from ! (stop !)) (look ! 8 refl)) tt) (from ! (stop !)) (init ! 6 refl (tt, tt)) $
-        returns-if ! (load ! (from ! (stop !)) (look ! 6 refl)) (λ below.
-        let l : i < length ys = ltb→lt i (length ys) below in let fits : i * bytes < 2 ^ 64 = inside i (length ys) l (gn .1) in
-        assigns ! (bin ! (load ! (from ! (stop !)) (look ! 10 refl)) (lit ! tt) (record { fits = fits })) (from ! (stop !)) (init ! 4 refl (tt, record { fits = fits })) $
-        assigns ! (bin ! (load ! (from ! (fld ! refl (stop !))) (look-in ! 12 (sub ! 0 refl (whole !)))) (load ! (from ! (stop !)) (look ! 4 refl)) tt) (from ! (stop !)) (init ! 2 refl (tt, tt)) $
-        rewrite ! 2 (λ (p : ℕ). ‵ (fat fullShare tyPtr l₆ 0 (vptr b p))) (sym (place-is bytes o i)) refl $
-        move ! (17 ∷ []) $ fsplit ! $ fsplit ! $ move ! (1 ∷ []) $ fsplit ! $ move ! (20 ∷ []) $ split ! $ move ! (3 ∷ 0 ∷ []) $
-        looks-slice ! tt R (Is R) (shows 𝓤 H A R) vals tells (copies 𝓤 H A W) ys b o (λ q′. elem-out ! R (Is R) (shows 𝓤 H A R) vals tells q′ ys i no-record b o l (λ is.
-        -- [records[i]; what it owns; the others; what shuts; the fractured borrow; true; res; the slice's fact; i's; _7; …; _6; …; _0; …]
-        assigns ! (of-opd ! (load ! (from ! (hop ! (look ! 11 refl) (stop !))) (look-raw ! 0 refl))) (from ! (stop !)) (init ! 9 refl (typed 𝓤 H A W _ is)) $
-        assigns ! (of-opd ! (load ! (from ! (stop !)) (look ! 9 refl))) (from ! (stop !)) (init ! 23 refl (typed 𝓤 H A W _ is)) $
-        elem-back ! R q′ ys i no-record (vals (getD ys i no-record)) b o l $ shuts-slice ! tt R q′ ys b o $
-        returns-within ! Post refl (look ! 20 refl) $ forget ! 6 refl $ forget ! 8 refl $ forget ! 10 refl $ forget ! 12 refl $ forget ! 14 refl $ forget ! 16 refl $ forget ! 18 refl $ forget ! 20 refl $
-        move ! (20 ∷ 21 ∷ []) $ free1 ! $ move ! (18 ∷ 19 ∷ []) $ free1 ! $ move ! (16 ∷ 17 ∷ []) $ free1 ! $ move ! (14 ∷ 15 ∷ []) $ free1 ! $
-        move ! (12 ∷ 13 ∷ []) $ free1 ! $ move ! (10 ∷ 11 ∷ []) $ free1 ! $ move ! (8 ∷ 9 ∷ []) $ free1 ! $ move ! (6 ∷ 7 ∷ []) $ free1 ! $ free0 ! $
-        move ! (3 ∷ 1 ∷ []) $ fjoin ! $ move ! (3 ∷ 0 ∷ []) $ fjoin ! $ move ! (3 ∷ []) $ fsplit ! $ keep ! (3 ∷ 2 ∷ 0 ∷ []) $ by ! (exits (getD ys i no-record) refl is))))
-        (λ past.
-        assigns ! (agg ! (and-then ! (lit ! tt) (and-then ! (lit ! tt) (no-more !)))) (from ! (stop !)) (init ! 14 refl (typed 𝓤 H A W no-record zeros)) $
-        returns ! (look ! 14 refl) $ forget ! 6 refl $ forget ! 8 refl $ forget ! 10 refl $ forget ! 12 refl $ forget ! 14 refl $
-        move ! (14 ∷ 15 ∷ []) $ free1 ! $ move ! (12 ∷ 13 ∷ []) $ free1 ! $ move ! (10 ∷ 11 ∷ []) $ free1 ! $ move ! (8 ∷ 9 ∷ []) $ free1 ! $
-        move ! (6 ∷ 7 ∷ []) $ free1 ! $ move ! (4 ∷ 5 ∷ []) $ free1 ! $ move ! (2 ∷ 3 ∷ []) $ free1 ! $ free1 ! $ free0 ! $
-        split ! $ move ! (2 ∷ []) $ fsplit ! $ move ! (1 ∷ []) $ fsplit ! $ keep ! (3 ∷ 2 ∷ 0 ∷ []) $ by ! (exits no-record (sym (List·getD-eq-default ys no-record (nltb→le i (length ys) past))) zeros))))))))))
-
 module _ {M : Type 1} (𝓤 : URA M) (H : Heap 𝓤) (A : Atoms 𝓤) (W : Given 𝓤 H A) (mem : Memory → SProp 𝓤) (run : Routine → Fun 𝓤) where
-  lookup-walks : (C : Calls 𝓤 H) (Λ : Loops 𝓤 H) → Walks 𝓤 H A lookup.ended stayed (WpFn 𝓤 H C Λ code.function) (lookup.clauses 𝓤 H A mem run)
-  lookup-walks C Λ = walked 𝓤 H A lookup.ended stayed (lookup.clauses 𝓤 H A mem run) (WpFn 𝓤 H C Λ code.function) (λ κs. (slice-vals, (uint-vals w64, tt))) (λ κs. (shr-slice-tells (named 0) (κs .0) R, (uint-tells w64, tt)))
-      (λ κs qs bounds a g are. via 𝓤 _ (fst∗ 𝓤 _ (emp 𝓤)) (walk 𝓤 H A W mem run (κs .0) (qs .0) (a .0 .ptr .0) (a .0 .ptr .1) (a .0 .name) (a .0 .now) (a .1 .0) C Λ (are .0 .0 .1) (are .1 .0 .1)))
+  module _ (κ : Lft) (q : Share) (b o : ℕ) (γ : GName) (ys : List Record) (i : ℕ) where
+    abbrev x : RefT (List Record)
+    x = record { ptr = (b, o); name = γ; now = ys }
 
-lookup-meets : {M : Type 1} (𝓤 : URA M) (H : Heap 𝓤) (A : Atoms 𝓤) → Given 𝓤 H A → (mem : Memory → SProp 𝓤) (run : Routine → Fun 𝓤) (𝓣 : Tables 𝓤 H)
-    → Meets 𝓤 H A lookup.signature (WpFn 𝓤 H (𝓣 .C) (𝓣 .Λ) code.function) (lookup.spec 𝓤 H A mem run)
-lookup-meets 𝓤 H A W mem run 𝓣 = walk-meets 𝓤 H A lookup.ended stayed W (goes-none-slice 𝓤 H A W 1 (0 ∷ []) tt (plain (λ _. R)) yes, (goes-none 𝓤 H A W 1 (λ _. usize) yes (λ κs x f. refl), tt)) (lookup.clauses 𝓤 H A mem run) (WpFn 𝓤 H (𝓣 .C) (𝓣 .Λ) code.function) (WpFn-mono 𝓤 H (W .laws) 𝓣 code.function) (lookup-walks 𝓤 H A W mem run (𝓣 .C) (𝓣 .Λ))
+    abbrev at : Vals lookup.signature (κ, tt)
+    at = (sliceVal (b, o) (length ys) ∷ [], (vint w64 i ∷ [], tt))
+
+    abbrev Own : Fml
+    Own = ShrSlice (named 0) κ R .own x (at .0)
+
+    abbrev bound : walkOf 𝓤 H A lookup.ended stayed (lookup.clauses 𝓤 H A mem run) .Ghost
+    bound = (((κ, tt), (q, tt), tt, (x, (i, tt)), at), tt)
+
+    abbrev Post : Val → SProp 𝓤
+    Post = walkOf 𝓤 H A lookup.ended stayed (lookup.clauses 𝓤 H A mem run) .post bound
+
+    exits : (r : Record) → r ≡ getD ys i no-record → Is R r (vals r)
+        → ent 𝓤 (⋆ 𝓤 H A (‵ (flft κ q) ∷ ‵ Own ∷ ‵ (usize .own i (vint w64 i ∷ [])) ∷ [])) (Post (val r))
+    exits r e is =
+        qed W (‵ (flft κ q) ∷ ‵ Own ∷ ‵ (usize .own i (vint w64 i ∷ [])) ∷ []) ∵
+        suffices ! _ (ends-at 𝓤 H A lookup.ended stayed (lookup.clauses 𝓤 H A mem run) W bound (val r) r (tt, (tt, tt)) (tt, (tt, tt))) $ says ! e $
+        nothing ! $ move ! (1 ∷ 0 ∷ []) $ join ! $ nothing ! $ move ! (3 ∷ 0 ∷ []) $ fjoin ! $ move ! (2 ∷ 0 ∷ []) $ fjoin ! $ move ! (1 ∷ 0 ∷ []) $
+        frame ! $ frame ! $ owned ! R (Is R) (makes 𝓤 H A) r _ is $ done !
+
+    module _ (C : Calls 𝓤 H) (Λ : Loops 𝓤 H) where
+      walk : Room R (length ys) → i < 2 ^ 64 → ent 𝓤 (onEntry 𝓤 H A lookup.signature (κ, tt) (q, tt) (x, (i, tt)) at)
+          (WpFn 𝓤 H C Λ code.function (sliceVal (b, o) (length ys) ∷ vint w64 i ∷ []) Post)
+      walk gn gi =
+          qed W ((‵ (flft κ q) ⊛ ‵ ftrue) ∷ ‵ (owns (ShrSlice (named 0) κ R ∷ usize ∷ []) (x, (i, tt)) at) ∷ []) ∵
+          enter ! C Λ code.function (sliceVal (b, o) (length ys) ∷ vint w64 i ∷ []) _ $
+          alloc1 ! (λ l₀. alloc1 ! (λ l₁. alloc1 ! (λ l₂. alloc1 ! (λ l₃. alloc1 ! (λ l₄. alloc1 ! (λ l₅. alloc1 ! (λ l₆. alloc1 ! (λ l₇. alloc0 ! $ params1 ! $
+          pass1 ! (init ! 12 refl (tt, (tt, (record { fits = gn .0 }, tt)))) $ pass1 ! (init ! 10 refl (tt, record { fits = gi })) $ pass0 ! $
+          -- [_7; …; _6; …; _5; …; _4; …; _3; …; _2; …; _1; …; _0; …; the token; what the parameters own]
+          sets ! (of-opd ! (load ! (from ! (fld ! refl (stop !))) (look-in ! 12 (sub ! 1 refl (whole !))))) 8 refl (tt, record { fits = gn .0 }) $
+          sets ! (bin ! (local ! 10 refl) (local ! 8 refl) tt) 6 refl (tt, tt) $
+          returns-if ! (local ! 6 refl) (λ below.
+          let l : i < length ys = ltb→lt i (length ys) below in let fits : i * bytes < 2 ^ 64 = inside i (length ys) l (gn .1) in
+          sets ! (bin ! (local ! 10 refl) (lit ! tt) (record { fits = fits })) 4 refl (tt, record { fits = fits }) $
+          sets ! (bin ! (load ! (from ! (fld ! refl (stop !))) (look-in ! 12 (sub ! 0 refl (whole !)))) (local ! 4 refl) tt) 2 refl (tt, tt) $
+          rewrite ! 2 (λ (p : ℕ). ‵ (fat fullShare tyPtr l₆ 0 (vptr b p))) (sym (place-is bytes o i)) refl $
+          move ! (17 ∷ []) $ fsplit ! $ fsplit ! $ move ! (1 ∷ []) $ fsplit ! $ move ! (20 ∷ []) $ split ! $ move ! (3 ∷ 0 ∷ []) $
+          looks-slice ! tt R (Is R) (shows 𝓤 H A R) vals tells (copies 𝓤 H A W) ys b o (λ q′.
+          elem-out ! R (Is R) (shows 𝓤 H A R) vals tells q′ ys i no-record b o l (λ is.
+          -- [records[i]; what it owns; the others; what shuts; the fractured borrow; true; res; the slice's fact; i's; _7; …; _6; …; _0; …]
+          sets ! (of-opd ! (load ! (from ! (hop ! (look ! 11 refl) (stop !))) (look-raw ! 0 refl))) 9 refl (typed 𝓤 H A W _ is) $
+          sets ! (of-opd ! (local ! 9 refl)) 23 refl (typed 𝓤 H A W _ is) $
+          elem-back ! R q′ ys i no-record (vals (getD ys i no-record)) b o l $ shuts-slice ! tt R q′ ys b o $
+          returns-within ! Post refl (look ! 20 refl) $
+          frees-cell ! 20 refl refl $ frees-cell ! 18 refl refl $ frees-cell ! 16 refl refl $ frees-cell ! 14 refl refl $
+          frees-cell ! 12 refl refl $ frees-cell ! 10 refl refl $ frees-cell ! 8 refl refl $ frees-cell ! 6 refl refl $ free0 ! $
+          move ! (3 ∷ 1 ∷ []) $ fjoin ! $ move ! (3 ∷ 0 ∷ []) $ fjoin ! $ move ! (3 ∷ []) $ fsplit ! $ keep ! (3 ∷ 2 ∷ 0 ∷ []) $
+          by ! (exits (getD ys i no-record) refl is))))
+          (λ past.
+          sets ! (agg ! (and-then ! (lit ! tt) (and-then ! (lit ! tt) (no-more !)))) 14 refl (typed 𝓤 H A W no-record zeros) $
+          returns ! (look ! 14 refl) $ frees-cell ! 14 refl refl $ frees-cell ! 12 refl refl $ frees-cell ! 10 refl refl $ frees-cell ! 8 refl refl $
+          frees-cell ! 6 refl refl $
+          frees-room ! 4 refl refl $ frees-room ! 2 refl refl $ frees-room ! 0 refl refl $ free0 ! $
+          split ! $ move ! (2 ∷ []) $ fsplit ! $ move ! (1 ∷ []) $ fsplit ! $ keep ! (3 ∷ 2 ∷ 0 ∷ []) $
+          by ! (exits no-record (sym (List·getD-eq-default ys no-record (nltb→le i (length ys) past))) zeros))))))))))
+
+  lookup-walks : (C : Calls 𝓤 H) (Λ : Loops 𝓤 H)
+      → Walks 𝓤 H A lookup.ended stayed (WpFn 𝓤 H C Λ code.function) (lookup.clauses 𝓤 H A mem run)
+  lookup-walks C Λ =
+      walked 𝓤 H A lookup.ended stayed (lookup.clauses 𝓤 H A mem run) (WpFn 𝓤 H C Λ code.function)
+      (λ κs. (slice-vals, (uint-vals w64, tt)))
+      (λ κs. (shr-slice-tells (named 0) (κs .0) R, (uint-tells w64, tt)))
+      (λ κs qs bounds a g are. via 𝓤 _ (fst∗ 𝓤 _ (emp 𝓤))
+      (walk (κs .0) (qs .0) (a .0 .ptr .0) (a .0 .ptr .1) (a .0 .name) (a .0 .now) (a .1 .0) C Λ (are .0 .0 .1) (are .1 .0 .1)))
+
+  lookup-meets : (𝓣 : Tables 𝓤 H)
+      → Meets 𝓤 H A lookup.signature (WpFn 𝓤 H (𝓣 .C) (𝓣 .Λ) code.function) (lookup.spec 𝓤 H A mem run)
+  lookup-meets 𝓣 =
+      walk-meets 𝓤 H A lookup.ended stayed W
+      (goes-none-slice 𝓤 H A W 1 (0 ∷ []) tt (plain (λ _. R)) yes, (goes-none 𝓤 H A W 1 (λ _. usize) yes (λ κs x f. refl), tt))
+      (lookup.clauses 𝓤 H A mem run) (WpFn 𝓤 H (𝓣 .C) (𝓣 .Λ) code.function) (WpFn-mono 𝓤 H (W .laws) 𝓣 code.function)
+      (lookup-walks (𝓣 .C) (𝓣 .Λ))
 
 pub lookup-spec : {M : Type 1} → stated.statement M
 unfolding code.routine tablesOf
