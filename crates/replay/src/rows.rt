@@ -20,7 +20,7 @@ pub fn row_bytes(chunks: usize) -> usize
 }
 
 // Bit c of the row at `at`.
-pub fn row_bit(rows: &[u8], at: usize, c: usize) -> bool
+pub(crate) fn row_bit(rows: &[u8], at: usize, c: usize) -> bool
     requires { ⌜ at + c / 8 < length (now rows) ⌝ }
     ensures { λ r. ⌜ r ≡ row-bit (now (rows .entry)) at c ⌝ }
 {
@@ -56,7 +56,7 @@ pub fn set_bits(rows: &[u8], at: usize, from: usize, n: usize) -> usize
 }
 
 // No filling bit of the row at `at` is set.
-pub fn row_filled(rows: &[u8], at: usize, chunks: usize) -> bool
+fn row_filled(rows: &[u8], at: usize, chunks: usize) -> bool
     requires { ⌜ (row-bytes chunks * 8 < 2 ^ 64) × (at + row-bytes chunks ≤ length (now rows)) ⌝ }
     ensures { λ r. ⌜ r ≡ row-filled chunks (now (rows .entry)) at ⌝ }
 {
