@@ -65,12 +65,11 @@ use Rattle.records.proofs.record_list.record_at.Code as code
 abbrev stayed : Stays (record-at.ended .signature .params) (record-at.ended .kept)
 stayed = (stay-none (λ _. S.the-row) yes, (stay-none (λ _. usize) yes, tt))
 
-module _ {M : Type 1} (𝓤 : URA M) (H : Heap 𝓤) (A : Atoms 𝓤) (mem : Memory → SProp 𝓤) (run : Routine → Fun 𝓤) where
+module _ {M : Type 1} (𝓤 : URA M) (H : Heap 𝓤) (A : Atoms 𝓤) (W : Given 𝓤 H A) (mem : Memory → SProp 𝓤) (run : Routine → Fun 𝓤) where
   -- the contract that the proof cites
   abbrev Lookup : Contract 𝓤
   Lookup = tripleOf 𝓤 H A lookup.signature (lookup.spec 𝓤 H A mem run)
 
-module _ {M : Type 1} (𝓤 : URA M) (H : Heap 𝓤) (A : Atoms 𝓤) (W : Given 𝓤 H A) (mem : Memory → SProp 𝓤) (run : Routine → Fun 𝓤) where
   module _ (st : State) (i : ℕ) (is-state : Is S.the-row st (S′.lowered st ∷ [])) (fits : i < 2 ^ 64) where
     abbrev ys : List Record
     ys = st .records
@@ -106,10 +105,10 @@ module _ {M : Type 1} (𝓤 : URA M) (H : Heap 𝓤) (A : Atoms 𝓤) (W : Given
       abbrev v : Val
       v = sliceVal (b, offset) (length ys)
 
-      abbrev to : Lookup 𝓤 H A mem run .Ghost
+      abbrev to : Lookup .Ghost
       to = (((κ, tt), (fullShare, tt), tt, (x, (i, tt)), (v ∷ [], (vint w64 i ∷ [], tt))), tt)
 
-      asked : ent 𝓤 (sep 𝓤 (A .lft κ fullShare) (sem 𝓤 H A (ShrSlice (named 0) κ R .own x (v ∷ [])))) (Lookup 𝓤 H A mem run .pre to)
+      asked : ent 𝓤 (sep 𝓤 (A .lft κ fullShare) (sem 𝓤 H A (ShrSlice (named 0) κ R .own x (v ∷ [])))) (Lookup .pre to)
       asked =
           qed W (‵ (flft κ fullShare) ∷ ‵ (ShrSlice (named 0) κ R .own x (v ∷ [])) ∷ []) ∵ nothing ! $
           owned ! usize (Is usize) (uint-makes 𝓤 H A W w64) i _ (refl, fits) $ fjoin ! $
@@ -118,7 +117,7 @@ module _ {M : Type 1} (𝓤 : URA M) (H : Heap 𝓤) (A : Atoms 𝓤) (W : Given
       said : (r : Record) → ent 𝓤 (ensured 𝓤 H A lookup.ended (lookup.clauses 𝓤 H A mem run) (κ, tt) (x, (i, tt)) tt r) (fact 𝓤 (r ≡ found))
       said r = exE 𝓤 _ (λ ws. snd∗ 𝓤 (sem 𝓤 H A (lasts lookup.ended (κ, tt) (x, (i, tt)) ws)) (fact 𝓤 (r ≡ found)))
 
-    module _ (C : Calls 𝓤 H) (Λ : Loops 𝓤 H) (fm : FmC 𝓤 H (W .laws) C) (known : Triple 𝓤 (C #lookup) (Lookup 𝓤 H A mem run)) where
+    module _ (C : Calls 𝓤 H) (Λ : Loops 𝓤 H) (fm : FmC 𝓤 H (W .laws) C) (known : Triple 𝓤 (C #lookup) Lookup) where
       walk : ent 𝓤 (onEntry 𝓤 H A record-at.signature tt tt (st, (i, tt)) at) (WpFn 𝓤 H C Λ code.function (S′.lowered st ∷ vint w64 i ∷ []) Post)
       walk =
           let typed = LL.lawful S.the-type S′.the-laws 𝓤 H A W .typed st (S′.lowered st ∷ []) is-state .0 in
@@ -137,8 +136,8 @@ module _ {M : Type 1} (𝓤 : URA M) (H : Heap 𝓤) (A : Atoms 𝓤) (W : Given
           ⊛ ‵ (flent (α ∷ []) (arr-parts (shares R) (length ys) .part fullShare ys l₃ offset)))))
           (lends-shr-slice 𝓤 H A W R (named 0) (α ∷ []) fullShare ys l₃ offset (room-for ys size)) $ await ! tt $ pick ! (λ γ. split ! $
           -- [the slice; the lender's part; the token; the rest of the cell; _5; …; _4; …; (_3's right to be freed); _2; …; _1; …; _0; …]
-          move ! (2 ∷ 0 ∷ []) $ use2 W (raw (Lookup 𝓤 H A mem run .pre (to l₃ (α ∷ []) γ))) (asked l₃ (α ∷ []) γ) $
-          calls-at ! fm (Lookup 𝓤 H A mem run) known (to l₃ (α ∷ []) γ) (and-then ! (local ! 3 refl) (and-then ! (local ! 8 refl) (no-more !))) (λ u.
+          move ! (2 ∷ 0 ∷ []) $ use2 W (raw (Lookup .pre (to l₃ (α ∷ []) γ))) (asked l₃ (α ∷ []) γ) $
+          calls-at ! fm Lookup known (to l₃ (α ∷ []) γ) (and-then ! (local ! 3 refl) (and-then ! (local ! 8 refl) (no-more !))) (λ u.
           use1 W (later (some (λ (r : Record). ((‵ (flft (α ∷ []) fullShare) ⊛ ‵ ftrue) ⊛ ‵ (R .own r (u ∷ [])))
           ⊛ raw (ensured 𝓤 H A lookup.ended (lookup.clauses 𝓤 H A mem run) (α ∷ [], tt) (x l₃ (α ∷ []) γ, (i, tt)) tt r)))) (id⊢ 𝓤 _) $
           await ! tt $ pick ! (λ r. split ! $ move ! (1 ∷ []) $ use1 W (raw (fact 𝓤 (r ≡ found))) (said l₃ (α ∷ []) γ r) $ heard ! (r ≡ found) (λ e. split ! $
@@ -154,7 +153,7 @@ module _ {M : Type 1} (𝓤 : URA M) (H : Heap 𝓤) (A : Atoms 𝓤) (W : Given
           keep ! (0 ∷ 3 ∷ []) $ by ! (exits r u e))))))))))))))
 
   record-at-walks : (C : Calls 𝓤 H) (Λ : Loops 𝓤 H)
-      → FmC 𝓤 H (W .laws) C → Triple 𝓤 (C #lookup) (Lookup 𝓤 H A mem run)
+      → FmC 𝓤 H (W .laws) C → Triple 𝓤 (C #lookup) Lookup
       → Walks 𝓤 H A record-at.ended stayed (WpFn 𝓤 H C Λ code.function) (record-at.clauses 𝓤 H A mem run)
   record-at-walks C Λ fm known =
       walked 𝓤 H A record-at.ended stayed (record-at.clauses 𝓤 H A mem run) (WpFn 𝓤 H C Λ code.function)
@@ -164,7 +163,7 @@ module _ {M : Type 1} (𝓤 : URA M) (H : Heap 𝓤) (A : Atoms 𝓤) (W : Given
       (walk (a .0) (a .1 .0) (are .0) (are .1 .0 .1) C Λ fm known))
 
   record-at-meets : (𝓣 : Tables 𝓤 H)
-      → Triple 𝓤 (𝓣 .C #lookup) (Lookup 𝓤 H A mem run)
+      → Triple 𝓤 (𝓣 .C #lookup) Lookup
       → Meets 𝓤 H A record-at.signature (WpFn 𝓤 H (𝓣 .C) (𝓣 .Λ) code.function) (record-at.spec 𝓤 H A mem run)
   record-at-meets 𝓣 known =
       walk-meets 𝓤 H A record-at.ended stayed W
@@ -178,5 +177,5 @@ record-at-spec 𝓤 H 𝓜 𝓖 𝓡 =
     entered 𝓤 H (tripleOf 𝓤 H (𝓖 .A) record-at.signature (record-at.spec 𝓤 H (𝓖 .A) (𝓜 .mem) (𝓡 .run)))
     (tables 𝓤 H 𝓜 𝓡 code.env .C) (tables 𝓤 H 𝓜 𝓡 code.env .Λ) #record-at code.function (code.unfolded 𝓤 H 𝓜 𝓡)
     (record-at-meets 𝓤 H (𝓖 .A) (givenOf 𝓤 H 𝓜 𝓖) (𝓜 .mem) (𝓡 .run) (tablesOf 𝓤 H 𝓜 (tables 𝓤 H 𝓜 𝓡 code.env))
-    (cited 𝓤 H (Lookup 𝓤 H (𝓖 .A) (𝓜 .mem) (𝓡 .run)) 𝓜 𝓡 code.env #lookup lookup-def.routine
+    (cited 𝓤 H (Lookup 𝓤 H (𝓖 .A) (givenOf 𝓤 H 𝓜 𝓖) (𝓜 .mem) (𝓡 .run)) 𝓜 𝓡 code.env #lookup lookup-def.routine
     code.calls-records·record-list·lookup (lookup-thm.met 𝓤 H 𝓜 𝓖 𝓡)))

@@ -63,12 +63,11 @@ use Rattle.records.proofs.record_list.with_record.Code as code
 abbrev stayed : Stays (with-record.ended .signature .params) (with-record.ended .kept)
 stayed = (stay-none (λ _. S.the-row) yes, (stay-none (λ _. R) yes, tt))
 
-module _ {M : Type 1} (𝓤 : URA M) (H : Heap 𝓤) (A : Atoms 𝓤) (mem : Memory → SProp 𝓤) (run : Routine → Fun 𝓤) where
+module _ {M : Type 1} (𝓤 : URA M) (H : Heap 𝓤) (A : Atoms 𝓤) (W : Given 𝓤 H A) (mem : Memory → SProp 𝓤) (run : Routine → Fun 𝓤) where
   -- the contract that the proof cites
   abbrev Append : Contract 𝓤
   Append = tripleOf 𝓤 H A append.signature (append.spec 𝓤 H A mem run)
 
-module _ {M : Type 1} (𝓤 : URA M) (H : Heap 𝓤) (A : Atoms 𝓤) (W : Given 𝓤 H A) (mem : Memory → SProp 𝓤) (run : Routine → Fun 𝓤) where
   module _ (st : State) (r : Record) (is-state : Is S.the-row st (S′.lowered st ∷ [])) (is-record : Is R r (vals r)) where
     abbrev ys : List Record
     ys = st .records
@@ -108,10 +107,10 @@ module _ {M : Type 1} (𝓤 : URA M) (H : Heap 𝓤) (A : Atoms 𝓤) (W : Given
       abbrev v : Val
       v = sliceVal (b, offset) (length ys)
 
-      abbrev to : Append 𝓤 H A mem run .Ghost
+      abbrev to : Append .Ghost
       to = (((κ, tt), (fullShare, tt), tt, (x, (st .count, (r, tt))), (v ∷ [], (vint w64 (st .count) ∷ [], (vals r, tt)))), tt)
 
-      asked : ent 𝓤 (sep 𝓤 (A .lft κ fullShare) (sem 𝓤 H A (MutSlice (named 0) κ R .own x (v ∷ [])))) (Append 𝓤 H A mem run .pre to)
+      asked : ent 𝓤 (sep 𝓤 (A .lft κ fullShare) (sem 𝓤 H A (MutSlice (named 0) κ R .own x (v ∷ [])))) (Append .pre to)
       asked =
           qed W (‵ (flft κ fullShare) ∷ ‵ (MutSlice (named 0) κ R .own x (v ∷ [])) ∷ []) ∵ nothing ! $ owned ! R (Is R) (makes 𝓤 H A) r (vals r) is-record $
           fjoin ! $
@@ -122,7 +121,7 @@ module _ {M : Type 1} (𝓤 : URA M) (H : Heap 𝓤) (A : Atoms 𝓤) (W : Given
     abbrev Said : Bool → List Record → Type 0
     Said y xs = (y ≡ ltb (st .count) (length ys)) × (xs ≡ set ys (st .count) r)
 
-    module _ (C : Calls 𝓤 H) (Λ : Loops 𝓤 H) (fm : FmC 𝓤 H (W .laws) C) (known : Triple 𝓤 (C #append) (Append 𝓤 H A mem run)) where
+    module _ (C : Calls 𝓤 H) (Λ : Loops 𝓤 H) (fm : FmC 𝓤 H (W .laws) C) (known : Triple 𝓤 (C #append) Append) where
       walk : ent 𝓤 (onEntry 𝓤 H A with-record.signature tt tt (st, (r, tt)) at) (WpFn 𝓤 H C Λ code.function (S′.lowered st ∷ val r ∷ []) Post)
       walk =
           let lawful = LL.lawful S.the-type S′.the-laws 𝓤 H A W in let typed-state = lawful .typed st (S′.lowered st ∷ []) is-state .0 in
@@ -141,8 +140,8 @@ module _ {M : Type 1} (𝓤 : URA M) (H : Heap 𝓤) (A : Atoms 𝓤) (W : Given
           ⊛ ‵ (flent (α ∷ []) (Held R (length ys) l₃ offset γ)))))
           (lends-slice 𝓤 H A W R (named 0) (α ∷ []) ys l₃ offset (room-for ys size)) $ await ! tt $ pick ! (λ γ. split ! $
           -- [the slice; the lender's part; the token; the rest of the cell; _6; …; _5; …; _4; …; (_3's right to be freed); _2; …; _1; …; _0; …]
-          move ! (2 ∷ 0 ∷ []) $ use2 W (raw (Append 𝓤 H A mem run .pre (to l₃ (α ∷ []) γ))) (asked l₃ (α ∷ []) γ) $
-          calls-at ! fm (Append 𝓤 H A mem run) known (to l₃ (α ∷ []) γ)
+          move ! (2 ∷ 0 ∷ []) $ use2 W (raw (Append .pre (to l₃ (α ∷ []) γ))) (asked l₃ (α ∷ []) γ) $
+          calls-at ! fm Append known (to l₃ (α ∷ []) γ)
           (and-then ! (local ! 3 refl) (and-then ! (load ! (from ! (fld ! refl (stop !))) (look-in ! 12 (sub ! 0 refl (whole !)))) (and-then ! (local ! 10 refl) (no-more !)))) (λ u.
           use1 W (later (some (λ (y : Bool). ((‵ (flft (α ∷ []) fullShare) ⊛ ‵ ftrue) ⊛ ‵ (Boolean .own y (u ∷ [])))
           ⊛ raw (ensured 𝓤 H A append.ended (append.clauses 𝓤 H A mem run) (α ∷ [], tt) (x l₃ (α ∷ []) γ, (st .count, (r, tt))) tt y)))) (id⊢ 𝓤 _) $
@@ -165,7 +164,7 @@ module _ {M : Type 1} (𝓤 : URA M) (H : Heap 𝓤) (A : Atoms 𝓤) (W : Given
           keep ! (4 ∷ []) $ by ! (exits (zs .0) (e .1) is)))))))))))))))))
 
   with-record-walks : (C : Calls 𝓤 H) (Λ : Loops 𝓤 H)
-      → FmC 𝓤 H (W .laws) C → Triple 𝓤 (C #append) (Append 𝓤 H A mem run)
+      → FmC 𝓤 H (W .laws) C → Triple 𝓤 (C #append) Append
       → Walks 𝓤 H A with-record.ended stayed (WpFn 𝓤 H C Λ code.function) (with-record.clauses 𝓤 H A mem run)
   with-record-walks C Λ fm known =
       walked 𝓤 H A with-record.ended stayed (with-record.clauses 𝓤 H A mem run) (WpFn 𝓤 H C Λ code.function)
@@ -175,7 +174,7 @@ module _ {M : Type 1} (𝓤 : URA M) (H : Heap 𝓤) (A : Atoms 𝓤) (W : Given
       (walk (a .0) (a .1 .0) (are .0) (are .1 .0) C Λ fm known))
 
   with-record-meets : (𝓣 : Tables 𝓤 H)
-      → Triple 𝓤 (𝓣 .C #append) (Append 𝓤 H A mem run)
+      → Triple 𝓤 (𝓣 .C #append) Append
       → Meets 𝓤 H A with-record.signature (WpFn 𝓤 H (𝓣 .C) (𝓣 .Λ) code.function) (with-record.spec 𝓤 H A mem run)
   with-record-meets 𝓣 known =
       walk-meets 𝓤 H A with-record.ended stayed W
@@ -189,5 +188,5 @@ with-record-spec 𝓤 H 𝓜 𝓖 𝓡 =
     entered 𝓤 H (tripleOf 𝓤 H (𝓖 .A) with-record.signature (with-record.spec 𝓤 H (𝓖 .A) (𝓜 .mem) (𝓡 .run)))
     (tables 𝓤 H 𝓜 𝓡 code.env .C) (tables 𝓤 H 𝓜 𝓡 code.env .Λ) #with-record code.function (code.unfolded 𝓤 H 𝓜 𝓡)
     (with-record-meets 𝓤 H (𝓖 .A) (givenOf 𝓤 H 𝓜 𝓖) (𝓜 .mem) (𝓡 .run) (tablesOf 𝓤 H 𝓜 (tables 𝓤 H 𝓜 𝓡 code.env))
-    (cited 𝓤 H (Append 𝓤 H (𝓖 .A) (𝓜 .mem) (𝓡 .run)) 𝓜 𝓡 code.env #append append-def.routine
+    (cited 𝓤 H (Append 𝓤 H (𝓖 .A) (givenOf 𝓤 H 𝓜 𝓖) (𝓜 .mem) (𝓡 .run)) 𝓜 𝓡 code.env #append append-def.routine
     code.calls-records·record-list·append (append-thm.met 𝓤 H 𝓜 𝓖 𝓡)))
