@@ -10,8 +10,7 @@ use mathlib.Core.Option.{some}
 use lib.Dec.{leb, ltb, eqb}
 use lib.ListN.{length, getD}
 use borrow.Author.Tests.{le-leb, lt-leb, eq-eqb, ne-eqb}
-use Rattle.sheet.specs.Sheet.{got, address-bits, byte-bits, bit-count, field, read-field, clause, range, clause-holds, empty-holds, join, holds}
-use Rattle.sheet.specs.Sheet.{read-tagged, read-entry, read-members, read-rest, read-rule, read-edition, filling, read-filling, read-whole, read-sheet, well-formed, obeys}
+use Rattle.sheet.specs.Sheet.{got, address-bits, byte-bits, bit-count, field, read-field, clause, range, clause-holds, empty-holds, join, holds, read-tagged, read-entry, read-members, read-rest, read-rule, read-edition, filling, read-filling, read-whole, read-sheet, well-formed, obeys}
 use Rattle.sheet.proofs.Window.{word, word-field}
 use Rattle.sheet.proofs.Reading.{field-there, entry-range}
 use Rattle.example.specs.Valid.{valid, app-rule, app-sheet}

@@ -5,8 +5,7 @@ use mathlib.Core.Bool.{Bool, true, false, not, Bool·beq}
 use mathlib.Core.List.{List}
 use Prim.Native.Nat.{ℕ, suc, _-_, _<_}
 use native.Mathlib.Omega.{arith}
-use Rattle.sheet.specs.Sheet.{Found, malformed, got, on-got, Reader, Kind, all, any, Entry, one, many, Rule, Rules, group, cons}
-use Rattle.sheet.specs.Sheet.{empty-holds, join, holds, members-hold, read-entry, read-members, read-rest, read-rule}
+use Rattle.sheet.specs.Sheet.{Found, malformed, got, on-got, Reader, Kind, all, any, Entry, one, many, Rule, Rules, group, cons, empty-holds, join, holds, members-hold, read-entry, read-members, read-rest, read-rule}
 use Rattle.sheet.specs.Inner.{kind-of, is-all, head-told, step-told, group-told}
 use Rattle.sheet.specs.declared.rules.Head.{Head}
 use Rattle.sheet.specs.declared.rules.Head.the-variants.{Bad, Clause as Judged-clause, Group}

@@ -11,8 +11,7 @@ use native.Mathlib.Decide.{decLe}
 use lib.Dec.{leb, ltb}
 use borrow.Author.Tests.{le-leb, lt-leb}
 use lib.ListN.{length, getD}
-use Rattle.sheet.specs.Sheet.{Clause, range, same, Rule, clause, group, Rules, nil, cons, Kind, clause-holds, join, holds, members-hold}
-use Rattle.sheet.specs.Sheet.{read-sheet, well-formed, obeys, rule-holds, is-rule, verdict, judged}
+use Rattle.sheet.specs.Sheet.{Clause, range, same, Rule, clause, group, Rules, nil, cons, Kind, clause-holds, join, holds, members-hold, read-sheet, well-formed, obeys, rule-holds, is-rule, verdict, judged}
 use Rattle.sheet.specs.declared.Judged.the-variants.{Malformed, Obeys, Breaks}
 
 -- A sheet of edition 1 looks at the image after alone.
@@ -74,10 +73,6 @@ module _ (s image : List ℕ) where
       go false obeyed = (λ e. (cc, cc), λ e. cc)
       go true true = (λ e. (refl, cc), λ e. cc)
       go true false = (λ e. (refl, refl), λ e. refl)
-
--- A sheet that is malformed for one image is malformed for every other.
-pub malformed-for-all : (s image other : List ℕ) → judged s image ≡ Malformed → judged s other ≡ Malformed
-malformed-for-all s image other e = malformed-iff s other .1 (malformed-iff s image .0 e)
 
 -- What is obeyed is well-formed, and what is malformed nothing obeys.
 pub obeyed-is-formed : (s before after : List ℕ) → obeys s before after ≡ true → well-formed s ≡ true

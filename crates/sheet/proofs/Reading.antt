@@ -10,9 +10,7 @@ use native.Mathlib.Numerals.{add-one}
 use lib.Dec.{eqb, leb}
 use lib.Pow.{pow-add}
 use borrow.Author.Tests.{lt-leb, le-leb}
-use Rattle.sheet.specs.Sheet.{bit-count, field, Found, malformed, got, only-if}
-use Rattle.sheet.specs.Sheet.{tag-bits, read-field, read-range, read-same, read-many}
-use Rattle.sheet.specs.Sheet.{read-tagged, read-entry}
+use Rattle.sheet.specs.Sheet.{bit-count, field, Found, malformed, got, only-if, tag-bits, read-field, read-range, read-same, read-many, read-tagged, read-entry}
 use Rattle.sheet.specs.Inner.{field-told, kind-of, is-all}
 use Rattle.sheet.specs.declared.bits.Field.{Field}
 use Rattle.sheet.specs.declared.bits.Field.the-variants.{Cut, Bits}

@@ -8,9 +8,7 @@ use native.Mathlib.Omega.{arith}
 use lib.Dec.{eqb}
 use lib.ListN.{length}
 use borrow.Author.Tests.{lt-leb, le-leb, lt-ltb, le-ltb, eq-eqb, ne-eqb}
-use Rattle.sheet.specs.Sheet.{max-bytes, max-depth, edition-bits, the-edition, byte-bits, bit-count, field, Found, malformed, got, only-if}
-use Rattle.sheet.specs.Sheet.{Rule, holds, read-field, read-rule, read-edition, filling, read-filling, read-whole, rule-of, read-sheet}
-use Rattle.sheet.specs.Sheet.{well-formed, obeys, verdict, judged}
+use Rattle.sheet.specs.Sheet.{max-bytes, max-depth, edition-bits, the-edition, byte-bits, bit-count, field, Found, malformed, got, only-if, Rule, holds, read-field, read-rule, read-edition, filling, read-filling, read-whole, rule-of, read-sheet, well-formed, obeys, verdict, judged}
 use Rattle.sheet.specs.Inner.{step-told}
 use Rattle.sheet.specs.declared.Judged.the-variants.{Malformed}
 use Rattle.sheet.specs.declared.rules.Step.{Step}

@@ -256,10 +256,3 @@ verdict true false = Breaks
 -- What judging one image by a sheet answers.
 unfoldable pub judged : (sheet image : List ℕ) → Judged
 judged s image = verdict (well-formed s) (allows s image)
-
--- Document 01's number at opening, which judges the one image that it is given.
--- 5 is the number of a malformed sheet at every call; where the gate finds an image that breaks the sheet, its own number is 8.
-abbrev pub opening-number : Judged → ℕ
-opening-number Malformed = 5
-opening-number Breaks = 6
-opening-number Obeys = 0

@@ -23,7 +23,7 @@ const EDITION_BITS: usize = 4;
 
 const EDITION: usize = 1;
 
-// The sheet says no rule, or the image obeys the rule that it says, or breaks it. `opening-number` of `specs/Sheet.antt` has document 01's numbers.
+// The sheet says no rule, or the image obeys the rule that it says, or breaks it. Document 01's numbers for these are those of an opening: gate's `open-number`.
 pub enum Judged {
     Malformed,
     Obeys,

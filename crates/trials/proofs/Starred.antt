@@ -5,9 +5,8 @@ use Rattle.region.specs.Tab.{tab, tab-from}
 use Rattle.region.specs.Pmemspec.{update-bytes}
 use Rattle.replay.specs.AsyncSpec.{apply-write-selective, flush-writes, flush-writes-selective}
 use Rattle.replay.specs.Choice.{touched, points, row-of, rows-of}
-use Rattle.replay.specs.Rows.{row-at, rows-at, set-bits}
+use Rattle.replay.specs.Rows.{row-at, rows-at, set-bits, rows-filled, row-filled}
 use Rattle.replay.specs.Kept.{kept, kept-of}
-use Rattle.replay.specs.Rows.{rows-filled, row-filled}
 use Rattle.records.specs.State.{writes-of, together, records-inside, sound}
 use Rattle.verdict.specs.Search.{verdict, verdict-from}
 use Rattle.sheet.specs.Sheet.{field, clause-holds, empty-holds, join, holds, members-hold, read-field, read-tagged, read-entry, read-members, read-rest, read-rule, read-edition, filling, read-filling, read-whole, read-sheet, well-formed, obeys}
