@@ -1,26 +1,23 @@
--- Small facts that the laws of cuts share: a test of two parts, a list's tail, division by the chunk size. Assumes nothing.
+-- Small facts that the laws of cuts share: an address inside a write, a list's tail, division by the chunk size. Assumes nothing.
 use Prim.Native.Nat.{ℕ, zero, suc, _+_, _-_, _/_, _≤_, _<_}
 use native.Mathlib.Nat.{le-trans, le-div-iff-mul-le, div-mul-le-self}
 use native.Mathlib.Omega.{arith}
 use mathlib.Core.Path.{_≡_, refl}
-use mathlib.Core.Bool.{Bool, true, false, _&&_, false≢true}
+use mathlib.Core.Bool.{true}
 use mathlib.Core.List.{List, [], _∷_}
 use lib.Dec.{leb, ltb}
 use lib.ListN.{length, getD, drop}
 use borrow.Author.Tests.{leb-true, ltb-true}
 use Rattle.region.specs.Tab.{inside}
+use Rattle.region.proofs.Booleans.{both}
 use Rattle.region.proofs.Tab.{inside-in}
 use Rattle.replay.specs.AsyncSpec.{Write, size-to-chunks}
 use Rattle.replay.specs.Choice.{touched, touches}
 use Rattle.cuts.specs.Bits.{covers, touches-chunk}
 
-pub both-true : (a b : Bool) → a && b ≡ true → (a ≡ true) × (b ≡ true)
-both-true true b e = (refl, e)
-both-true false b e = absurd (false≢true e)
-
 pub inside-bounds : (addr n i : ℕ) → inside addr n i ≡ true → (addr ≤ i) × (i < addr + n)
 inside-bounds addr n i e =
-    let parts : (leb addr i ≡ true) × (ltb i (addr + n) ≡ true) = both-true (leb addr i) (ltb i (addr + n)) e in
+    let parts : (leb addr i ≡ true) × (ltb i (addr + n) ≡ true) = both (leb addr i) (ltb i (addr + n)) e in
     (leb-true addr i (parts .0), ltb-true i (addr + n) (parts .1))
 
 pub getD-tail {ℓ} : {A : Type ℓ} (l : List A) (j : ℕ) (d : A) → getD (drop 1 l) j d ≡ getD l (suc j) d

@@ -4,14 +4,14 @@ use native.Mathlib.Nat.{zero-add, add-zero, add-assoc, not-suc-le-zero, le-of-su
 use native.Mathlib.Decide.{decLt}
 use native.Mathlib.Omega.{arith}
 use mathlib.Core.Path.{_≡_, refl, sym, ap, _∙_}
-use mathlib.Core.Bool.{Bool, true, false, _&&_, false≢true}
+use mathlib.Core.Bool.{true, false, _&&_, false≢true}
 use mathlib.Core.List.{List, [], _∷_, _++_}
 use lib.ListN.{length, getD, take}
 use lib.Pow.{shr-shr}
 use Rattle.region.proofs.Tab.{length-tab, getD-tab, inside-below, inside-above}
 use Rattle.replay.specs.AsyncSpec.{Write, addr-to-chunk}
 use Rattle.replay.specs.Choice.{touched, points, bit, row-of, rows-of}
-use Rattle.cuts.specs.Bits.{no-write, write-at, row-bit-at, touches-chunk, keeps-all}
+use Rattle.cuts.specs.Bits.{no-write, write-at, row-bit-at, touches-chunk}
 use Rattle.cuts.specs.Shape.{has-shape}
 use Rattle.cuts.proofs.Digits.{bit-of-shift}
 
@@ -29,10 +29,6 @@ pub touching-write-is-logged : (C : ℕ) (ws : List Write) (j c : ℕ) → touch
 touching-write-is-logged C [] j c k = absurd (false≢true (sym (nothing-touched C c) ∙ k))
 touching-write-is-logged C (w ∷ ws) zero c k = omega arith
 touching-write-is-logged C (w ∷ ws) (suc j) c k = omega (arith, touching-write-is-logged C ws j c k)
-
-pub all-true-keeps-all : (C K : ℕ) (ws : List Write) (rows : List (List Bool))
-    → ((j c : ℕ) → j < length ws → c < K → row-bit-at rows j c ≡ true) → keeps-all C K ws rows
-all-true-keeps-all C K ws rows t j c h k = t j c (touching-write-is-logged C ws j c k) h
 
 -- one write more has the points above those of the log
 pub points-of-one-more : (C : ℕ) (ws : List Write) (w : Write) → points C (ws ++ (w ∷ [])) ≡ points C ws + touched C (w .addr) (length (w .bytes))

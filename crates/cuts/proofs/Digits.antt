@@ -1,6 +1,7 @@
 -- A number built from given bits has those bits, and the bits above them. Assumes nothing.
 use Prim.Native.Nat.{ℕ, zero, suc, _+_, _-_, _*_, _/_, _%_, _^_, _<_}
 use native.Mathlib.Nat.{zero-add, add-zero, add-suc, suc-add, div-one, not-suc-le-zero, le-of-suc-le-suc}
+use native.Mathlib.Numerals.{one-add}
 use native.Mathlib.Omega.{arith}
 use mathlib.Core.Path.{_≡_, refl, sym, ap, _∙_}
 use mathlib.Core.Bool.{Bool, true, false, cond}
@@ -14,11 +15,8 @@ pub bit-of-shift : (m t k : ℕ) → bit (m / 2 ^ t) k ≡ bit m (t + k)
 bit-of-shift m t k = ap (λ x. eqb (x % 2) 1) (shr-shr m t k)
 
 -- one place further is a place further in the half
-one-more : (k : ℕ) → suc k ≡ 1 + k
-one-more k = omega arith
-
 pub shr-suc : (m n : ℕ) → m / 2 ^ suc n ≡ m / 2 / 2 ^ n
-shr-suc m n = ap (λ x. m / 2 ^ x) (one-more n) ∙ sym (shr-shr m 1 n)
+shr-suc m n = ap (λ x. m / 2 ^ x) (sym (one-add n)) ∙ sym (shr-shr m 1 n)
 
 pub bit-suc : (m k : ℕ) → bit m (suc k) ≡ bit (m / 2) k
 bit-suc m k = ap (λ x. eqb (x % 2) 1) (shr-suc m k)

@@ -1,36 +1,21 @@
 -- The kept count: how it goes by the touched bits alone, and its two ends. Assumes nothing.
-use Prim.Native.Nat.{ℕ, zero, suc, _+_, _≤_, _<_}
+use Prim.Native.Nat.{ℕ, zero, suc, _+_, _≤_}
 use native.Mathlib.Nat.{le-refl, add-le-add}
 use native.Mathlib.Omega.{arith}
 use mathlib.Core.Path.{_≡_, refl, ap₂, _∙_}
-use mathlib.Core.Bool.{Bool, true, false, cond}
+use mathlib.Core.Bool.{Bool, true}
 use mathlib.Core.List.{List, [], _∷_}
-use lib.Dec.{lit≤}
 use lib.ListN.{length, drop}
 use Rattle.region.proofs.Tab.{inside-in}
 use Rattle.replay.specs.AsyncSpec.{Write, addr-to-chunk}
 use Rattle.replay.specs.Choice.{touched, points}
 use Rattle.replay.specs.Rows.{set-bits}
 use Rattle.replay.specs.Kept.{kept, kept-of}
+use Rattle.replay.proofs.ByteBits.{set-bits-le, set-bits-agree}
 use Rattle.cuts.specs.Bits.{write-at, row-bit-at, touches-chunk}
 use Rattle.cuts.proofs.Basics.{getD-tail}
 
-at-most-one : (t : Bool) → cond t 1 0 ≤ 1
-at-most-one true = le-refl 1
-at-most-one false = lit≤ tt
-
-pub set-bits-at-most : (b : ℕ → Bool) (from n : ℕ) → set-bits b from n ≤ n
-unfolding set-bits
-set-bits-at-most b from zero = le-refl 0
-set-bits-at-most b from (suc n) = omega (arith, at-most-one (b from), set-bits-at-most b (suc from) n)
-
-pub set-bits-agree : (b b′ : ℕ → Bool) (from n : ℕ) → ((c : ℕ) → from ≤ c → c < from + n → b c ≡ b′ c) → set-bits b from n ≡ set-bits b′ from n
-unfolding set-bits
-set-bits-agree b b′ from zero h = refl
-set-bits-agree b b′ from (suc n) h =
-    ap₂ (λ t x. cond t 1 0 + x) (h from (omega arith) (omega arith)) (set-bits-agree b b′ (suc from) n (λ c l k. h c (omega arith) (omega arith)))
-
-pub set-bits-all : (from n : ℕ) → set-bits (λ c. true) from n ≡ n
+set-bits-all : (from n : ℕ) → set-bits (λ c. true) from n ≡ n
 unfolding set-bits
 set-bits-all from zero = refl
 set-bits-all from (suc n) = rw (set-bits-all (suc from) n) (omega arith)
@@ -39,11 +24,7 @@ module _ (C : ℕ) where
   pub kept-at-most-points : (ws : List Write) (rows : List (List Bool)) → kept C ws rows ≤ points C ws
   unfolding kept kept-of points
   kept-at-most-points [] rows = le-refl 0
-  kept-at-most-points (w ∷ ws) rows = add-le-add (set-bits-at-most _ _ _) (kept-at-most-points ws (drop 1 rows))
-
-  pub kept-of-nothing : (rows : List (List Bool)) → kept C [] rows ≡ 0
-  unfolding kept
-  kept-of-nothing rows = refl
+  kept-at-most-points (w ∷ ws) rows = add-le-add (set-bits-le _ _ _) (kept-at-most-points ws (drop 1 rows))
 
   -- rows that agree in the touched chunks keep the same count
   pub kept-by-touched-bits : (ws : List Write) (rows rows′ : List (List Bool))

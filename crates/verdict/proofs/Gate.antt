@@ -3,7 +3,7 @@
 use Prim.Native.Nat.{ℕ, _-_, _<_}
 use mathlib.Core.Path.{_≡_, refl, sym, ap₂}
 use mathlib.Core.Logic.{_↔_}
-use mathlib.Core.Bool.{Bool, true}
+use mathlib.Core.Bool.{Bool}
 use mathlib.Core.List.{List}
 use Rattle.region.specs.Pmemspec.{can-result-from-partial-write}
 use Rattle.replay.specs.AsyncSpec.{AsyncView, write, can-crash}
@@ -61,13 +61,6 @@ module _ (C : ℕ) (C⁺ : 0 < C) (v : AsyncView) (addr : ℕ) (bytes : List ℕ
 
       cuts : (x : List ℕ) → can-crash C (write v addr bytes) x ↔ ((b : List ℕ) × can-crash C v b × can-result-from-partial-write C x b addr bytes)
       cuts = part-writes C C⁺ v addr bytes
-
-  -- what an admitted write gives a session: if a rule that allows a from b allows a from a, every image that a cut could then leave is allowed
-  pub admitted-images-allowed : (rule : Rule) → ((b a : List ℕ) → rule b a ≡ true → rule a a ≡ true) → gate-verdict C rule v addr bytes ≡ admit
-      → (x : List ℕ) → can-crash C (write v addr bytes) x → rule x x ≡ true
-  admitted-images-allowed rule stays e x h =
-      let made = part-writes C C⁺ v addr bytes x .0 h in
-      stays (made .0) x (gate-judges-pairs rule .admits .0 e (made .0) x (made .1, made .2))
 
   -- an admitted search ends on the read image: its last trial is the working image already
   pub last-trial-is-the-read-image : choice-image C (write v addr bytes) (gate-numbers C v addr bytes - 1) ≡ gate-image C v addr bytes admit
