@@ -1,6 +1,6 @@
 -- A log of one-byte writes at one address. Laid or lost, each leaves the image with some value at that address and nothing else changed; so where the
 -- image and the writes have one of two values there, every image that a cut could leave has too. Assumes nothing.
-use Prim.Native.Nat.{ℕ, _+_, _-_, _/_, _<_}
+use Prim.Native.Nat.{ℕ, _+_, _/_, _<_}
 use native.Mathlib.Nat.{add-zero}
 use native.Mathlib.Omega.{arith}
 use mathlib.Core.Path.{_≡_, refl, sym, ap, ap₂, subst⁻¹, _∙_}
