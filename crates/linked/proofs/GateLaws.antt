@@ -1,8 +1,8 @@
 -- The functions over `gate`: what each promises of words that are no state, and of words that are one. Assumes nothing.
 use Prim.Native.Nat.{ℕ}
-use mathlib.Core.Path.{_≡_, refl, ap, subst, _∙_}
+use mathlib.Core.Path.{_≡_, ap, subst, _∙_}
 use mathlib.Core.List.{List}
-use lib.ListN.{length, replicate}
+use lib.ListN.{length}
 use Rattle.region.specs.Pmemspec.{update-bytes}
 use Rattle.region.specs.Answer.{Report, answer-number}
 use Rattle.region.specs.declared.Answer.{Answer}
@@ -11,14 +11,9 @@ use Rattle.records.specs.declared.state.State.{State}
 use Rattle.gate.specs.Opening.{fresh, open-number, Opens}
 use Rattle.gate.specs.Judgement.{verdict-report, judge-report, judge-number, judge-work, Judges, Gates}
 use Rattle.gate.specs.declared.Verdict.{Verdict}
-use Rattle.words.specs.Words.{state-words, state-of, words-of, record-words, of-state, reported}
+use Rattle.words.specs.Words.{state-words, state-of, words-of, of-state, reported}
 use Rattle.linked.specs.Gate.{skaldrift-judge-number, SkaldriftOpen, SkaldriftJudge, SkaldriftGate}
 use Rattle.linked.proofs.CallLaws.{right, wrong, right-by, right-words, wrong-by}
-
--- a good opening leaves 65 words of 0
-pub fresh-words : words-of fresh ≡ replicate state-words 0
-unfolding record-words
-fresh-words = refl
 
 module _ (words image log sheet : List ℕ) where
   abbrev open-at : State → ℕ

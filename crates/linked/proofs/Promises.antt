@@ -1,5 +1,5 @@
 -- What a function promises of 65 words, the library's own call promises of the state that they say: there is an answer with that number and report, and the
--- promise goes from the state that the words say before to the one that they say afterwards. The laws of `skaldrift` go the other way. Assumes nothing.
+-- promise goes from the state that the words say before to the one that they say afterwards. `LogLaws`, `GateLaws` and `TapeLaws` go the other way. Assumes nothing.
 use Prim.Native.Nat.{ℕ, zero, suc}
 use native.Mathlib.Nat.{suc-ne-zero}
 use mathlib.Core.Path.{_≡_, refl, sym, ap, _∙_}
