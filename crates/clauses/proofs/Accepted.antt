@@ -10,7 +10,7 @@ use Rattle.region.specs.Answer.{if-done}
 use Rattle.region.specs.Pmemspec.{update-bytes}
 use Rattle.region.specs.declared.Answer.{Answer}
 use Rattle.region.specs.declared.Answer.the-variants.{Done}
-use Rattle.region.proofs.AnswerLaws.{done-changed}
+use Rattle.region.proofs.AnswerLaws.{changed}
 use Rattle.replay.specs.AsyncSpec.{AsyncView, len, write, size-to-chunks}
 use Rattle.cuts.proofs.Lengths.{length-flush, length-flush-selective}
 use Rattle.records.specs.State.{log-records, together, view, sound, appended, emptied}
@@ -97,7 +97,7 @@ module _ (image : List ℕ) (st : State) (log : List ℕ) (a : Accepted image st
       → TapeWrites image st log tape start predicted addr bytes answer st′ log′ predicted′ → Accepted image st′ log′
   accepted-after-tape-write {tape} {start} {predicted} {addr} {bytes} p =
       either-way (Accepted image) (tape-write-number image st log tape start predicted addr (length bytes)) (p .state-after) (p .log-after)
-      (λ none. recorded addr bytes (tape-write-done image st log tape start predicted addr (length bytes) none .room .room)) a
+      (λ none. recorded addr bytes (tape-write-done none .room .room)) a
 
   pub accepted-after-tape-flush : {tape : List ℕ} {start : ℕ} {predicted : List ℕ} {answer : Answer} {st′ : State} {start′ : ℕ} {image′ predicted′ : List ℕ}
       → TapeFlushes image st log tape start predicted answer st′ start′ image′ predicted′ → Accepted image′ st′ log
@@ -108,7 +108,7 @@ module _ (image : List ℕ) (st : State) (log : List ℕ) (a : Accepted image st
       → TapeCuts image st log tape start predicted answer st′ start′ image′ predicted′ → Accepted image′ st′ log
   accepted-after-tape-cut {tape} {start} {predicted} p =
       either-way (λ s x. Accepted x s log) (tape-cut-number image st log tape start predicted) (p .state-after) (p .image-after)
-      (λ none. let ending = ending-done (length image) st (length log) (length predicted) false tape start none in
+      (λ none. let ending = ending-done none in
       settled _ (ap length (predicted-cut const-persistence-chunk-size tape start (view image st log) (ending .foretold))
       ∙ length-flush-selective const-persistence-chunk-size (view image st log) _)) a
 
@@ -158,9 +158,9 @@ pub rows-there-after-tape-write : (image : List ℕ) (st : State) (log tape : Li
     → Epoch (size-to-chunks const-persistence-chunk-size (length image)) (st′ .count) tape start
 rows-there-after-tape-write image st log tape start predicted {addr} {bytes} p =
     let none : tape-write-number image st log tape start predicted addr (length bytes) ≡ 0 = sym (p .answers) in
-    let state = p .state-after ∙ sym (done-changed (appended st addr (length bytes)) st none) in
+    let state = changed _ (p .state-after) none in
     subst⁻¹ (λ (n : ℕ). Epoch (size-to-chunks const-persistence-chunk-size (length image)) n tape start) (ap (λ (s : State). s .count) state)
-    (tape-write-done image st log tape start predicted addr (length bytes) none .room .epoch)
+    (tape-write-done none .room .epoch)
 
 -- `inv` after the example's setup and run: the image keeps its length
 pub length-after-setup : (image : List ℕ) (addr val0 : ℕ) {answer : Answer} {image′ : List ℕ} → SetsUp image addr val0 answer image′ → length image′ ≡ length image

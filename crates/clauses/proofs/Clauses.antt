@@ -2,17 +2,17 @@
 use Prim.Native.Nat.{ℕ, zero, suc, _+_, _≤_, _<_}
 use native.Mathlib.Nat.{le-of-suc-le-suc, not-suc-le-zero, min-le-left}
 use native.Mathlib.Omega.{arith}
-use mathlib.Core.Path.{_≡_, refl, sym, ap, ap₂, subst, subst⁻¹, _∙_}
+use mathlib.Core.Path.{_≡_, refl, sym, ap, ap₂, subst⁻¹, _∙_}
 use mathlib.Core.Bool.{Bool, true}
 use mathlib.Core.List.{List, [], _∷_}
 use lib.Dec.{leb}
 use lib.ListN.{length, getD, drop, length-take}
 use borrow.Author.Tests.{leb-true}
 use Rattle.region.specs.Limits.{const-persistence-chunk-size, writes-limit}
-use Rattle.region.specs.Pmemspec.{update-bytes, extract-bytes}
+use Rattle.region.specs.Pmemspec.{extract-bytes}
 use Rattle.region.specs.Answer.{Report}
 use Rattle.region.specs.declared.Answer.the-variants.{Done}
-use Rattle.region.proofs.AnswerLaws.{done-changed}
+use Rattle.region.proofs.AnswerLaws.{changed, passed}
 use Rattle.region.proofs.Booleans.{both}
 use Rattle.replay.specs.AsyncSpec.{AsyncView, len, valid, within, write, flush, readable, can-crash-as, can-crash}
 use Rattle.replay.proofs.Laid.{update-reads-back}
@@ -25,15 +25,15 @@ use Rattle.cuts.proofs.OneMore.{read-of-a-write}
 use Rattle.cuts.proofs.Prophecy.{prophecy-of-nothing}
 use Rattle.cuts.proofs.Shape.{shaped-rows-crash}
 use Rattle.cuts.proofs.Tables.{rows-at-shape}
-use Rattle.records.specs.State.{log-records, together, writes-of, view, records-inside, sound, appended, emptied}
+use Rattle.records.specs.State.{log-records, writes-of, view, records-inside, sound}
 use Rattle.writelog.specs.Write.{write-number, Writes}
 use Rattle.writelog.specs.Flush.{flush-number, Flushes}
-use Rattle.writelog.specs.Cut.{chunks, table-rows, cut-number, cut-image, Cuts}
+use Rattle.writelog.specs.Cut.{chunks, table-rows, cut-number, Cuts}
 use Rattle.records.specs.declared.state.Record.{Record}
 use Rattle.records.specs.declared.state.State.{State}
 use Rattle.writelog.specs.declared.cut.CutAnswer.the-variants.{Kept}
 use Rattle.records.proofs.Soundness.{sound-facts}
-use Rattle.writelog.proofs.WriteLaws.{passed, room-done}
+use Rattle.writelog.proofs.WriteLaws.{room-done}
 use Rattle.records.proofs.Views.{writes-counted, view-of-recorded, view-of-emptied}
 use Rattle.gate.specs.Opening.{fresh, Opens}
 use Rattle.gate.proofs.Gives.{opened-fresh}
@@ -71,12 +71,12 @@ pub cut-leaves-a-crash : (image : List ℕ) (st : State) (log table : List ℕ) 
 unfolding cut-number
 cut-leaves-a-crash image st log table {k} {st′} {image′} sized p =
     let none : cut-number image st log table ≡ 0 = sym (ap (λ (r : Report). r .number) (p .answers)) in
-    let good = passed (sound (length image) st (length log)) 0 _ none .0 in
+    let good = passed _ none .0 in
     let few : st .count ≤ length (st .records) = omega (arith, sized, sound-facts (length image) st (length log) good .few) in
     let shape : has-shape (chunks image) (length (writes-of (log-records st) log)) (table-rows image st table) =
     subst⁻¹ (λ (n : ℕ). has-shape (chunks image) n (table-rows image st table)) (writes-counted image st log few) (rows-at-shape (chunks image) (st .count) table 0) in
     subst⁻¹ (λ (x : List ℕ). can-crash-as const-persistence-chunk-size (view image st log) x (table-rows image st table))
-    (p .image-after ∙ sym (done-changed (cut-image image st log table) image none))
+    (changed _ (p .image-after) none)
     (shaped-rows-crash const-persistence-chunk-size (view image st log) (table-rows image st table) shape)
 
 -- `write` of pmem_async_spec_t.rs: a done write puts the write to the end of the log
@@ -85,9 +85,9 @@ pub done-write-writes : (image : List ℕ) (st : State) (log : List ℕ) (addr :
 unfolding write-number
 done-write-writes image st log addr bytes sized p =
     let none : write-number image st log addr (length bytes) ≡ 0 = sym (p .answers) in
-    let tests = passed (sound (length image) st (length log)) 0 _ none in
+    let tests = passed _ none in
     let room = room-done (length image) st addr (length bytes) (tests .1) in
-    ap₂ (view image) (p .state-after ∙ sym (done-changed (appended st addr (length bytes)) st none)) (p .log-after ∙ sym (done-changed (update-bytes log (together (log-records st)) bytes) log none))
+    ap₂ (view image) (changed _ (p .state-after) none) (changed _ (p .log-after) none)
     ∙ view-of-recorded image st log addr bytes sized (sound-facts (length image) st (length log) (tests .0)) room
 
 -- `flush` of pmem_async_spec_t.rs: a done flush flushes
@@ -95,7 +95,7 @@ pub done-flush-flushes : (image : List ℕ) (st : State) (log : List ℕ) {st′
     → Flushes image st log Done st′ image′ → view image′ st′ log ≡ flush (view image st log)
 done-flush-flushes image st log p =
     let none : flush-number image st log ≡ 0 = sym (p .answers) in
-    ap₂ (λ (x : List ℕ) (s : State). view x s log) (p .image-after ∙ sym (done-changed (readable (view image st log)) image none)) (p .state-after ∙ sym (done-changed (emptied st) st none))
+    ap₂ (λ (x : List ℕ) (s : State). view x s log) (changed _ (p .image-after) none) (changed _ (p .state-after) none)
     ∙ view-of-emptied st (readable (view image st log)) log ∙ sym (flush-leaves-the-read-image (view image st log))
 
 -- the comment on `flush` in power_v.rs: what a cut could leave after a flush, it could have left before

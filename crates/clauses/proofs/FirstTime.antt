@@ -5,15 +5,15 @@ use Prim.Native.Nat.{ℕ, zero, suc, _+_, _^_, _<_}
 use native.Mathlib.Nat.{suc-ne-zero}
 use native.Mathlib.Numerals.{add-one}
 use native.Mathlib.Omega.{arith}
-use mathlib.Core.Path.{_≡_, refl, sym, ap₂, subst, subst⁻¹, _∙_}
+use mathlib.Core.Path.{_≡_, refl, sym, ap₂, subst⁻¹, _∙_}
 use mathlib.Core.Bool.{Bool, true, false, _&&_}
 use mathlib.Core.List.{List, [], _∷_}
 use lib.Dec.{leb, eqb}
-use lib.ListN.{length, set}
+use lib.ListN.{length}
 use Rattle.region.specs.Limits.{image-limit, log-limit}
 use Rattle.region.specs.Answer.{unless}
 use Rattle.region.specs.declared.Answer.the-variants as answer
-use Rattle.region.proofs.AnswerLaws.{done-changed}
+use Rattle.region.proofs.AnswerLaws.{done-changed, changed}
 use Rattle.sheet.specs.Sheet.{byte-bits, obeys}
 use Rattle.records.specs.declared.state.State.{State}
 use Rattle.records.proofs.Soundness.{facts-sound}
@@ -21,7 +21,7 @@ use Rattle.writelog.proofs.FlushLaws.{flushes-done}
 use Rattle.gate.specs.Opening.{fresh, Opens}
 use Rattle.gate.proofs.Meaning.{admitting}
 use Rattle.example.specs.Valid.{valid, app-sheet}
-use Rattle.example.specs.Run.{run-number, rounds-limit, if-any-round, last-writes, Runs}
+use Rattle.example.specs.Run.{run-number, rounds-limit, Runs}
 use Rattle.example.specs.Steps.{Under, Goes, Repeats}
 use Rattle.example.specs.declared.RunAnswer.the-variants.{Done}
 use Rattle.example.proofs.NumberLaws.{Fit, number-0-fits, opening-decides}
@@ -133,7 +133,7 @@ module _ (image log work : List ℕ) (addr val0 val1 rounds : ℕ) (byte0 : val0
   opens : Opens image fresh log sheet answer.Done fresh
   opens =
       let decides = opening-decides image log work sheet addr val0 val1 rounds fit (app-sheet-formed addr val0 val1 (omega (arith, fit .lies, fit .short)) byte0 byte1) says ∙ none in
-      record { answers = sym decides; state-after = done-changed fresh fresh decides }
+      record { answers = sym decides; state-after = done-changed _ decides }
 
   under : Under image fresh log sheet work addr val0 val1
   under =
@@ -142,8 +142,8 @@ module _ (image log work : List ℕ) (addr val0 val1 rounds : ℕ) (byte0 : val0
   pub first-time-is-a-run : (st : State) × Run sheet image (rounds-of addr val0 val1 rounds) (desk image′ st log′)
   first-time-is-a-run =
       let gone = rounds-go-on sheet image under (opened opens) rounds in
-      let image-same : image′ ≡ gone .image-now = p .image-after ∙ sym (done-changed (if-any-round rounds (set image addr val0) image) image none) ∙ sym (gone .repeats .image-after) in
-      let log-same : log′ ≡ gone .log-now = p .log-after ∙ sym (done-changed (if-any-round rounds (last-writes log val0 val1) log) log none) ∙ sym (gone .repeats .log-after) in
+      let image-same : image′ ≡ gone .image-now = changed _ (p .image-after) none ∙ sym (gone .repeats .image-after) in
+      let log-same : log′ ≡ gone .log-now = changed _ (p .log-after) none ∙ sym (gone .repeats .log-after) in
       (gone .state, subst⁻¹ (Run sheet image (rounds-of addr val0 val1 rounds)) (ap₂ (λ (x l : List ℕ). desk x (gone .state) l) image-same log-same) (gone .run))
 
   -- the three sentences of demand 3, after the opening and after every write and flush of the rounds

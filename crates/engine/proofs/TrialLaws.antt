@@ -69,4 +69,4 @@ module _ (image : List ℕ) (st : State) (log : List ℕ) (work-length addr : �
       → older ≡ n - touched const-persistence-chunk-size addr (length bytes)
       → work′ ≡ lay-by (m / 2 ^ older) replayed (new-write addr bytes)
       → work′ ≡ choice-image const-persistence-chunk-size (write (view image st log) addr bytes) m
-  trial-image m c p l o w = rw (w, l, p, c, all-writes (length image) st (length log) log, o, older-points, choice-of-a-write const-persistence-chunk-size (lit< tt) (view image st log) addr bytes m)
+  trial-image m c p l o w = rw (w, l, p, c, all-writes st log, o, older-points, choice-of-a-write const-persistence-chunk-size (lit< tt) (view image st log) addr bytes m)

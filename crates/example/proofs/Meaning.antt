@@ -9,7 +9,7 @@ use lib.Seq.{getD-set-same, getD-set-other}
 use Rattle.region.specs.Answer.{answer-number, if-done}
 use Rattle.region.specs.declared.Answer.{Answer}
 use Rattle.region.specs.declared.Answer.the-variants as answers
-use Rattle.region.proofs.AnswerLaws.{done-changed}
+use Rattle.region.proofs.AnswerLaws.{changed}
 use Rattle.example.specs.Valid.{valid}
 use Rattle.example.specs.Setup.{setup-number, SetsUp}
 use Rattle.example.specs.Run.{run-number, run-answer-number, if-any-round, last-writes, Runs}
@@ -24,7 +24,7 @@ pub set-up-is-valid : (image : List ℕ) (addr val0 : ℕ) {answer : Answer} {im
     → (val1 : ℕ) → valid addr val0 val1 image′ ≡ true
 set-up-is-valid image addr val0 p d val1 =
     let none : setup-number image addr ≡ 0 = sym (p .answers) ∙ ap answer-number d in
-    ap (valid addr val0 val1) (p .image-after ∙ sym (done-changed (set image addr val0) image none))
+    ap (valid addr val0 val1) (changed _ (p .image-after) none)
     ∙ set-valid addr val0 val1 val0 image (setup-done-lies image addr val0 none) (first-value val0 val1)
 
 module _ (image log work : List ℕ) (addr val0 val1 rounds : ℕ) {answer : RunAnswer} {image′ log′ work′ : List ℕ} (p : Runs image log work addr val0 val1 rounds answer image′ log′ work′) where
@@ -36,7 +36,7 @@ module _ (image log work : List ℕ) (addr val0 val1 rounds : ℕ) {answer : Run
   done-number d = sym (p .answers) ∙ ap run-answer-number d
 
   image-is : answer ≡ Done → image′ ≡ if-any-round rounds (set image addr val0) image
-  image-is d = p .image-after ∙ sym (done-changed (if-any-round rounds (set image addr val0) image) image (done-number d))
+  image-is d = changed _ (p .image-after) (done-number d)
 
   -- "With r at least 1, byte addr ends as val0": the answer is that of a valid image, so the address lies inside
   module _ (d : answer ≡ Done) (lies : addr < length image) where
@@ -59,8 +59,8 @@ module _ (image log work : List ℕ) (addr val0 val1 rounds : ℕ) {answer : Run
   nothing-in-no-round d z =
       let none = done-number d in (
         image-is d ∙ ap (λ (n : ℕ). if-any-round n (set image addr val0) image) z,
-        p .log-after ∙ sym (done-changed (if-any-round rounds (last-writes log val0 val1) log) log none) ∙ ap (λ (n : ℕ). if-any-round n (last-writes log val0 val1) log) z,
-        p .work-after ∙ sym (done-changed (if-any-round rounds (set image addr val0) work) work none) ∙ ap (λ (n : ℕ). if-any-round n (set image addr val0) work) z,
+        changed _ (p .log-after) none ∙ ap (λ (n : ℕ). if-any-round n (last-writes log val0 val1) log) z,
+        changed _ (p .work-after) none ∙ ap (λ (n : ℕ). if-any-round n (set image addr val0) work) z,
       )
 
   -- `run` of the source keeps its invariant

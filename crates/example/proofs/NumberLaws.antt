@@ -12,9 +12,8 @@ use Rattle.region.specs.Answer.{unless, answer-number, refusal-number}
 use Rattle.region.specs.declared.Answer.{Answer}
 use Rattle.region.specs.declared.Refusal.{Refusal}
 use Rattle.region.specs.declared.Answer.the-variants as answers
-use Rattle.region.proofs.AnswerLaws.{done-changed, refused-left, refusal-not-done}
+use Rattle.region.proofs.AnswerLaws.{done-changed, refused-left, refusal-not-done, passed}
 use Rattle.region.proofs.Booleans.{both, cond-when, cond-unless}
-use Rattle.writelog.proofs.WriteLaws.{passed}
 use Rattle.records.specs.declared.state.State.{State}
 use Rattle.sheet.specs.Sheet.{well-formed, obeys}
 use Rattle.gate.specs.Opening.{open-number, Opens}
@@ -22,18 +21,18 @@ use Rattle.gate.proofs.OpeningLaws.{open-good, open-broken}
 use Rattle.gate.proofs.Gives.{opens-means, opened-fresh}
 use Rattle.example.specs.Valid.{valid}
 use Rattle.example.specs.Setup.{setup-number, SetsUp}
-use Rattle.example.specs.Run.{rounds-limit, run-number, run-answer-number, if-any-round, last-writes, Runs}
+use Rattle.example.specs.Run.{rounds-limit, run-number, run-answer-number, Runs}
 use Rattle.example.specs.Steps.{fits-number, Under, Repeats}
 use Rattle.example.specs.declared.RunAnswer.{RunAnswer}
-use Rattle.example.specs.declared.RunAnswer.the-variants.{Done, Refused}
+use Rattle.example.specs.declared.RunAnswer.the-variants.{Refused}
 
 -- setup
 module _ (image : List ℕ) (addr val0 : ℕ) where
   pub sets-up-refused : (why : Refusal) → setup-number image addr ≡ refusal-number why → SetsUp image addr val0 (answers.Refused why) image
-  sets-up-refused why e = record { answers = sym e; image-after = refused-left why (set image addr val0) image e }
+  sets-up-refused why e = record { answers = sym e; image-after = refused-left why _ e }
 
   pub sets-up-done : setup-number image addr ≡ 0 → {image′ : List ℕ} → image′ ≡ set image addr val0 → SetsUp image addr val0 answers.Done image′
-  sets-up-done none e = record { answers = sym none; image-after = e ∙ done-changed (set image addr val0) image none }
+  sets-up-done none e = record { answers = sym none; image-after = e ∙ done-changed _ none }
 
   pub setup-long : image-limit < length image → setup-number image addr ≡ 1
   unfolding setup-number
@@ -51,8 +50,8 @@ module _ (image : List ℕ) (addr val0 : ℕ) where
   pub setup-done-lies : setup-number image addr ≡ 0 → addr < length image
   unfolding setup-number
   setup-done-lies e =
-      let first = passed (leb (length image) image-limit) 0 (unless (leb (addr + 1) (length image)) 2 0) e in
-      let inside = leb-true (addr + 1) (length image) (passed (leb (addr + 1) (length image)) 1 0 (first .1) .0) in
+      let first = passed {good = leb (length image) image-limit} 0 e in
+      let inside = leb-true (addr + 1) (length image) (passed 1 {rest = 0} (first .1) .0) in
       omega (arith, inside)
 
 -- the tests of a run before the image is judged, by the lengths
@@ -93,9 +92,9 @@ module _ (L log-length work-length addr rounds : ℕ) where
 
   pub number-0-fits : number ≡ 0 → Fit
   number-0-fits e =
-      let f₁ = passed (leb L image-limit && eqb log-length log-limit && eqb work-length L) 0 (unless (leb (addr + 1) L) 2 (unless (leb rounds rounds-limit) 12 0)) e in
-      let f₂ = passed (leb (addr + 1) L) 1 (unless (leb rounds rounds-limit) 12 0) (f₁ .1) in
-      let f₃ = passed (leb rounds rounds-limit) 11 0 (f₂ .1) in
+      let f₁ = passed {good = leb L image-limit && eqb log-length log-limit && eqb work-length L} 0 e in
+      let f₂ = passed 1 (f₁ .1) in
+      let f₃ = passed 11 {rest = 0} (f₂ .1) in
       let both₃ = both (leb L image-limit && eqb log-length log-limit) (eqb work-length L) (f₁ .0) in
       let both₂ = both (leb L image-limit) (eqb log-length log-limit) (both₃ .0) in
       let inside = leb-true (addr + 1) L (f₂ .0) in
@@ -145,9 +144,9 @@ module _ (image log work : List ℕ) (addr val0 val1 rounds : ℕ) where
   runs-refused why e =
       record {
         answers = sym e;
-        image-after = refused-left why (if-any-round rounds (set image addr val0) image) image e;
-        log-after = refused-left why (if-any-round rounds (last-writes log val0 val1) log) log e;
-        work-after = refused-left why (if-any-round rounds (set image addr val0) work) work e;
+        image-after = refused-left why _ e;
+        log-after = refused-left why _ e;
+        work-after = refused-left why _ e;
       }
 
   pub runs-done : run-is ≡ 0 → {answer : RunAnswer} {image′ log′ work′ : List ℕ} → Repeats image log work addr val0 val1 rounds answer image′ log′ work′
@@ -155,9 +154,9 @@ module _ (image log work : List ℕ) (addr val0 val1 rounds : ℕ) where
   runs-done none r =
       record {
         answers = ap run-answer-number (r .answers) ∙ sym none;
-        image-after = r .image-after ∙ done-changed (if-any-round rounds (set image addr val0) image) image none;
-        log-after = r .log-after ∙ done-changed (if-any-round rounds (last-writes log val0 val1) log) log none;
-        work-after = r .work-after ∙ done-changed (if-any-round rounds (set image addr val0) work) work none;
+        image-after = r .image-after ∙ done-changed _ none;
+        log-after = r .log-after ∙ done-changed _ none;
+        work-after = r .work-after ∙ done-changed _ none;
       }
 
 -- the opening of a run, under a sheet that says `valid`

@@ -16,7 +16,7 @@ use Rattle.region.specs.Pmemspec.{update-bytes}
 use Rattle.region.specs.declared.Answer.{Answer}
 use Rattle.region.specs.declared.Answer.the-variants as answers
 use Rattle.region.proofs.Booleans.{both, both-true}
-use Rattle.region.proofs.AnswerLaws.{answers-by-number, done-changed}
+use Rattle.region.proofs.AnswerLaws.{answers-by-number, changed}
 use Rattle.replay.specs.AsyncSpec.{AsyncView, Write, write, readable, can-crash}
 use Rattle.replay.specs.Choice.{points}
 use Rattle.sheet.specs.Sheet.{obeys}
@@ -141,8 +141,8 @@ module _ (image : List ℕ) (st : State) (log sheet work : List ℕ) (addr a b v
       let held = gated-holds image st log sheet work addr (v ∷ []) g (l .sized) (admits .1) in
       let none = admitted-number image st log sheet work addr (v ∷ []) (gate-judges image st log sheet work addr (v ∷ []) g) (admits .1) in
       let new : Record = record { addr = addr; len = 1 } in
-      let state : st′ ≡ appended st addr 1 = g .state-after ∙ sym (done-changed (appended st addr 1) st none) in
-      let laid : log′ ≡ update-bytes log (together (log-records st)) (v ∷ []) = g .log-after ∙ sym (done-changed (update-bytes log (together (log-records st)) (v ∷ [])) log none) in
+      let state : st′ ≡ appended st addr 1 = changed _ (g .state-after) none in
+      let laid : log′ ≡ update-bytes log (together (log-records st)) (v ∷ []) = changed _ (g .log-after) none in
       let few-writes : st .count < writes-limit = omega (arith, l .counted) in
       let room : length us < length log = omega (arith, l .facts .buffer) in
       let longer = length-append us (v ∷ []) in
@@ -172,11 +172,11 @@ module _ (image : List ℕ) (st : State) (log : List ℕ) (addr v : ℕ) (us : L
   pub flush-goes : {answer : Answer} {st′ : State} {image′ : List ℕ} → Flushes image st log answer st′ image′ → Flushed image addr v answer st′ image′
   flush-goes {answer} f =
       let none = flush-sound image st log (facts-sound (length image) st (length log) (l .facts)) in
-      let state = f .state-after ∙ sym (done-changed (emptied st) st none) in
+      let state = changed _ (f .state-after) none in
       record {
         done = answers-by-number answer answers.Done (f .answers ∙ none);
         idle = record { sized = ap (λ (s : State). length (s .records)) state ∙ l .sized; empty = ap (λ (s : State). s .count) state };
-        image-after = f .image-after ∙ sym (done-changed (readable (view image st log)) image none) ∙ ap readable (l .seen) ∙ last-read addr v us image lies;
+        image-after = changed _ (f .image-after) none ∙ ap readable (l .seen) ∙ last-read addr v us image lies;
       }
 
 -- a pair: two values written through the gate, and flushed

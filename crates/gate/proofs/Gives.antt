@@ -12,7 +12,7 @@ use Rattle.region.specs.Answer.{answer-number}
 use Rattle.region.specs.declared.Refusal.{Refusal}
 use Rattle.region.specs.declared.Answer.{Answer}
 use Rattle.region.specs.declared.Answer.the-variants.{Done}
-use Rattle.region.proofs.AnswerLaws.{answers-by-number, done-changed, not-done, refusal-not-done}
+use Rattle.region.proofs.AnswerLaws.{answers-by-number, changed, not-done, refusal-not-done}
 use Rattle.replay.specs.AsyncSpec.{AsyncView, write, readable, can-crash}
 use Rattle.cuts.proofs.Always.{cut-of-nothing}
 use Rattle.sheet.specs.Sheet.{obeys}
@@ -60,7 +60,7 @@ module _ (image : List ℕ) (st : State) (log sheet : List ℕ) {answer : Answer
   )
 
   pub opened-fresh : answer ≡ Done → st′ ≡ fresh
-  opened-fresh d = p .state-after ∙ sym (done-changed fresh st (sym (p .answers) ∙ ap answer-number d))
+  opened-fresh d = changed _ (p .state-after) (sym (p .answers) ∙ ap answer-number d)
 
   pub opened-holds : answer ≡ Done → Holds image st′ log sheet
   opened-holds d = subst⁻¹ (λ (s : State). Holds image s log sheet) (opened-fresh d) (empty-holds image fresh log sheet refl (opens-means .0 d))
@@ -105,8 +105,8 @@ module _ (image : List ℕ) (st : State) (log sheet work : List ℕ) (addr : ℕ
         let j = gate-judges image st log sheet work addr bytes g in
         let none = admitted-number image st log sheet work addr bytes j a in
         let held = judged-holds sized j a in
-        let s : st′ ≡ appended st addr (length bytes) = g .state-after ∙ sym (done-changed (appended st addr (length bytes)) st none) in
-        let l : log′ ≡ log-with st log bytes = g .log-after ∙ sym (done-changed (log-with st log bytes) log none) in
+        let s : st′ ≡ appended st addr (length bytes) = changed _ (g .state-after) none in
+        let l : log′ ≡ log-with st log bytes = changed _ (g .log-after) none in
         let seen : view image st′ log′ ≡ write (view image st log) addr bytes = ap₂ (view image) s l ∙ held .1 in (
           seen,
           subst⁻¹ (λ (b : List ℕ). Holds image st′ b sheet) l (subst⁻¹ (λ (t : State). Holds image t (log-with st log bytes) sheet) s (held .2)),

@@ -216,8 +216,8 @@ module _ {image : List ℕ} {st : State} {log sheet work : List ℕ} {addr : ℕ
         let none = admitted-number image st log sheet work addr bytes j a in
         record {
           answers = j .answers;
-          state-after = s ∙ done-changed (appended st addr (length bytes)) st none;
-          log-after = l ∙ done-changed (update-bytes log (together (log-records st)) bytes) log none;
+          state-after = s ∙ done-changed _ none;
+          log-after = l ∙ done-changed _ none;
           work-after = j .work-after;
         }
 

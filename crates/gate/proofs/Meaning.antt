@@ -7,11 +7,10 @@ use mathlib.Core.List.{List}
 use lib.Dec.{lit<}
 use lib.ListN.{length}
 use Rattle.region.specs.Limits.{const-persistence-chunk-size}
-use Rattle.region.specs.Answer.{Report}
+use Rattle.region.specs.Answer.{Report, refusal-number}
 use Rattle.region.specs.declared.Refusal.{Refusal}
-use Rattle.region.specs.declared.Answer.the-variants as answers
 use Rattle.region.specs.Pmemspec.{update-bytes}
-use Rattle.region.proofs.AnswerLaws.{answers-by-number, done-changed}
+use Rattle.region.proofs.AnswerLaws.{refusals-by-number, refusal-not-8, done-changed}
 use Rattle.replay.specs.AsyncSpec.{AsyncView, write, readable}
 use Rattle.verdict.specs.Search as search
 use Rattle.verdict.specs.Covering.{Rule, after-alone}
@@ -24,9 +23,13 @@ use Rattle.records.specs.declared.state.State.{State}
 use Rattle.engine.specs.Search.{sheet-verdict, sheet-image}
 use Rattle.gate.specs.declared.Verdict.{Verdict}
 use Rattle.gate.specs.declared.Verdict.the-variants.{Admitted, Denied, Refused}
-use Rattle.gate.specs.Judgement.{verdict-report, Judgement, tried, gate-points, judgement-report, judgement-work, Judges, Gates}
+use Rattle.gate.specs.Judgement.{denied-number, verdict-report, Judgement, tried, gate-points, judgement-report, judgement-work, Judges, Gates}
 use Rattle.gate.specs.Meaning.{Fits, Means, could-leave}
 use Rattle.gate.proofs.JudgementLaws.{J, nothing-reported, one-value, fitting-tried, admitted-fits, denied-fits}
+
+-- 8 is a denial alone
+pub denial-is-no-refusal : (why : Refusal) → refusal-number why ≡ denied-number → ⊥
+denial-is-no-refusal = refusal-not-8
 
 -- the numbers and values of document 01 tell the verdicts apart
 pub verdicts-by-report : (a b : Verdict) → verdict-report a ≡ verdict-report b → a ≡ b
@@ -38,10 +41,7 @@ verdicts-by-report (Denied m) (Denied k) e = ap Denied (one-value (ap (λ (r : R
 verdicts-by-report (Denied m) (Refused why) e = absurd (nothing-reported (sym (ap (λ (r : Report). r .values) e)))
 verdicts-by-report (Refused why) (Admitted n) e = absurd (nothing-reported (ap (λ (r : Report). r .values) e))
 verdicts-by-report (Refused why) (Denied m) e = absurd (nothing-reported (ap (λ (r : Report). r .values) e))
-verdicts-by-report (Refused why) (Refused reason) e = ap Refused (same-refusal (answers-by-number (answers.Refused why) (answers.Refused reason) (ap (λ (r : Report). r .number) e)))
-  where
-    same-refusal : {a b : Refusal} → answers.Refused a ≡ answers.Refused b → a ≡ b
-    same-refusal e = cc
+verdicts-by-report (Refused why) (Refused reason) e = ap Refused (refusals-by-number why reason (ap (λ (r : Report). r .number) e))
 
 -- the rule of a sheet looks at the image after alone
 rule-alone : (sheet : List ℕ) → _≡_ {A = Rule} (λ before after. obeys sheet before after) (after-alone (λ x. obeys sheet x x))
@@ -117,7 +117,7 @@ module _ (image : List ℕ) (st : State) (log sheet work : List ℕ) (addr : ℕ
       let none = ap (λ (r : Report). r .number) report in
       record {
         answers = sym report;
-        state-after = done-changed (appended st addr (length bytes)) st none;
-        log-after = done-changed (update-bytes log (together (log-records st)) bytes) log none;
+        state-after = done-changed _ none;
+        log-after = done-changed _ none;
         work-after = sym (ap (λ (j : Judgement). judgement-work v addr bytes j work) admits);
       }

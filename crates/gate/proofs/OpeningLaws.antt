@@ -12,12 +12,11 @@ use Rattle.region.specs.Answer.{unless, refusal-number}
 use Rattle.region.specs.declared.Refusal.{Refusal}
 use Rattle.region.specs.declared.Refusal.the-variants.{BadState, BadSheet, BrokenImage}
 use Rattle.region.specs.declared.Answer.the-variants.{Done, Refused}
-use Rattle.region.proofs.AnswerLaws.{done-changed, refused-left}
+use Rattle.region.proofs.AnswerLaws.{done-changed, refused-left, passed}
 use Rattle.region.proofs.Booleans.{cond-when, cond-unless, and-unless, both, both-true}
 use Rattle.sheet.specs.Sheet.{well-formed, obeys}
 use Rattle.sheet.proofs.Laws.{obeyed-is-formed}
 use Rattle.records.specs.declared.state.State.{State}
-use Rattle.writelog.proofs.WriteLaws.{passed}
 use Rattle.gate.specs.Meaning.{Openable}
 use Rattle.gate.specs.Opening.{fresh, open-number, Opens}
 
@@ -40,12 +39,12 @@ module _ (image log sheet : List ℕ) where
     pub open-good : obeys sheet image image ≡ true → open-number image log sheet ≡ 0
     open-good f = first-passed ∙ cond-when (well-formed sheet) last 5 (obeyed-is-formed sheet image image f) ∙ cond-when (obeys sheet image image) 0 6 f
 
-  pub opens-exactly-if : (open-number image log sheet ≡ 0) ↔ Openable image log sheet
+  opened : open-number image log sheet ≡ 0 → Openable image log sheet
   unfolding open-number
   opens-exactly-if = (
-    λ e. let a = passed (first image log) 0 (unless (well-formed sheet) 5 last) e in
-        let b = passed (well-formed sheet) 4 last (a .1) in
-        let c = passed (obeys sheet image image) 5 0 (b .1) in
+    λ e. let a = passed {good = first image log} 0 e in
+        let b = passed {good = well-formed sheet} 4 {rest = last} (a .1) in
+        let c = passed _ (b .1) in
         let d = both _ _ (a .0) in
         record { short = leb-true (length image) image-limit (d .0); buffer = eqb-true (length log) log-limit (d .1); obeyed = c .0 },
     λ o. open-good (o .short) (o .buffer) (o .obeyed),
@@ -54,7 +53,7 @@ module _ (image log sheet : List ℕ) where
 -- the promise, return by return
 module _ {image : List ℕ} {st : State} {log sheet : List ℕ} where
   opens-refused : (why : Refusal) → open-number image log sheet ≡ refusal-number why → Opens image st log sheet (Refused why) st
-  opens-refused why e = record { answers = sym e; state-after = refused-left why fresh st e }
+  opens-refused why e = record { answers = sym e; state-after = refused-left why fresh e }
 
   pub opens-long : image-limit < length image → Opens image st log sheet (Refused BadState) st
   unfolding open-number
@@ -74,4 +73,4 @@ module _ {image : List ℕ} {st : State} {log sheet : List ℕ} where
     pub opens-good : (well-formed sheet ≡ true) × (obeys sheet image image ≡ true) → {st′ : State} → st′ ≡ fresh → Opens image st log sheet Done st′
     opens-good e s =
         let none = open-good image log sheet short buffer (e .1) in
-        record { answers = sym none; state-after = s ∙ done-changed fresh st none }
+        record { answers = sym none; state-after = s ∙ done-changed st none }

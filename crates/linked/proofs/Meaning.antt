@@ -1,15 +1,12 @@
 -- Demand 2 of the linked functions: what the number and the report of skaldrift_judge and skaldrift_gate mean, and what number 0 of skaldrift_open does. Assumes nothing.
 use Prim.Native.Nat.{ℕ}
-use native.Mathlib.Omega.{arith}
 use native.Mathlib.Nat.{suc-ne-zero}
 use mathlib.Core.Path.{_≡_, refl, sym, ap, _∙_}
 use mathlib.Core.Logic.{_↔_}
 use mathlib.Core.List.{List}
 use lib.ListN.{length}
 use Rattle.region.specs.Limits.{const-persistence-chunk-size}
-use Rattle.region.specs.Answer.{answer-number, refusal-number}
-use Rattle.region.specs.declared.Refusal.{Refusal}
-use Rattle.region.specs.declared.Refusal.the-variants.{BadState, OutOfRange, TooManyWrites, TooManyBytes, BadSheet, BrokenImage, TooManyPoints, BadRows, BadTape, NotPredicted, TooManyRounds}
+use Rattle.region.specs.Answer.{answer-number}
 use Rattle.verdict.specs.Search.{least-bad}
 use Rattle.verdict.specs.Gate.{gate-numbers}
 use Rattle.sheet.specs.Sheet.{allows}
@@ -19,31 +16,17 @@ use Rattle.gate.specs.Meaning.{Fits, image-of, Means, Openable}
 use Rattle.gate.specs.declared.Verdict.{Verdict}
 use Rattle.gate.specs.declared.Verdict.the-variants.{Admitted, Denied, Refused}
 use Rattle.gate.proofs.Gives.{opens-means}
-use Rattle.gate.proofs.Meaning.{judge-means}
+use Rattle.gate.proofs.Meaning.{denial-is-no-refusal, judge-means}
 use Rattle.words.specs.Words.{state-words, state-of, reported}
 use Rattle.linked.specs.Gate.{SkaldriftOpen, SkaldriftJudge, SkaldriftGate}
 use Rattle.linked.specs.Meaning.{MeansByNumber}
 use Rattle.linked.proofs.Promises.{linked-open, linked-judge}
 use Rattle.linked.proofs.Runs.{done-of, admitted-of}
 
--- 8 is a denial alone
-no-refusal-8 : (why : Refusal) → refusal-number why ≡ denied-number → ⊥
-no-refusal-8 BadState e = omega arith
-no-refusal-8 OutOfRange e = omega arith
-no-refusal-8 TooManyWrites e = omega arith
-no-refusal-8 TooManyBytes e = omega arith
-no-refusal-8 BadSheet e = omega arith
-no-refusal-8 BrokenImage e = omega arith
-no-refusal-8 TooManyPoints e = omega arith
-no-refusal-8 BadRows e = omega arith
-no-refusal-8 BadTape e = omega arith
-no-refusal-8 NotPredicted e = omega arith
-no-refusal-8 TooManyRounds e = omega arith
-
 denied-of : (v : Verdict) → verdict-report v .number ≡ denied-number → (m : ℕ) × (v ≡ Denied m)
 denied-of (Admitted n) same = absurd (suc-ne-zero 7 (sym same))
 denied-of (Denied m) same = (m, refl)
-denied-of (Refused why) same = absurd (no-refusal-8 why same)
+denied-of (Refused why) same = absurd (denial-is-no-refusal why same)
 
 module _ (words : List ℕ) {image log sheet work : List ℕ} {addr : ℕ} {bytes : List ℕ} (report : ℕ) {number : ℕ} {work′ : List ℕ} {report′ : ℕ} (v : Verdict)
     (same : verdict-report v .number ≡ number) (told : reported (verdict-report v) report ≡ report′) (means : Means image (state-of words) log sheet work addr bytes v work′) where

@@ -1,8 +1,8 @@
 -- Every number that a promise can give is that of an answer, a verdict or a cut's answer, by the tests that give it. Assumes nothing.
 use Prim.Native.Nat.{ℕ, zero, suc, _+_}
-use mathlib.Core.Path.{_≡_, refl, ap, subst, subst⁻¹, _∙_}
+use mathlib.Core.Path.{_≡_, refl, sym, subst, subst⁻¹}
 use mathlib.Core.Bool.{Bool, true, false, _&&_}
-use mathlib.Core.List.{List, [], _∷_}
+use mathlib.Core.List.{List}
 use lib.Dec.{leb, ltb, eqb}
 use lib.ListN.{length}
 use Rattle.region.specs.Limits.{image-limit, writes-limit, log-limit, points-limit, const-persistence-chunk-size}
@@ -11,7 +11,7 @@ use Rattle.region.specs.declared.Answer.{Answer}
 use Rattle.region.specs.declared.Answer.the-variants as answer
 use Rattle.region.specs.declared.Refusal.{Refusal}
 use Rattle.region.specs.declared.Refusal.the-variants.{BadState, OutOfRange, TooManyWrites, TooManyBytes, BadSheet, BrokenImage, TooManyPoints, BadRows, BadTape, NotPredicted, TooManyRounds}
-use Rattle.region.proofs.AnswerLaws.{not-done, refusal-not-done, refused-left}
+use Rattle.region.proofs.AnswerLaws.{not-done, refusal-not-done}
 use Rattle.replay.specs.AsyncSpec.{size-to-chunks}
 use Rattle.replay.specs.Rows.{rows-right, rows-filled}
 use Rattle.verdict.specs.Search as search
@@ -24,6 +24,7 @@ use Rattle.writelog.specs.Flush.{flush-number}
 use Rattle.writelog.specs.Cut.{cut-report, cut-told, chunks, cut-number}
 use Rattle.writelog.specs.declared.cut.CutAnswer.{CutAnswer}
 use Rattle.writelog.specs.declared.cut.CutAnswer.the-variants as cut-answer
+use Rattle.writelog.proofs.CutLaws.{cut-told, kept-told, refused-told}
 use Rattle.engine.specs.Search.{sheet-verdict}
 use Rattle.gate.specs.Opening.{open-number}
 use Rattle.gate.specs.Judgement.{verdict-report, Judgement, refused, tried, gate-points, weighed, judgement, judgement-report, judge-report}
@@ -131,11 +132,8 @@ run-answers image log work addr val0 val1 rounds =
 
 -- what a cut answers with such a number
 pub cut-answered : (kept n : ℕ) → Answers n → (a : CutAnswer) × (cut-report a ≡ cut-told kept n)
-cut-answered kept n (answer.Done, e) = (cut-answer.Kept kept, ap (cut-told kept) e)
-cut-answered kept n (answer.Refused why, e) = (
-  cut-answer.Refused why,
-  ap (λ (values : List ℕ). record { number = refusal-number why; values = values }) (refused-left why (kept ∷ []) [] refl) ∙ ap (cut-told kept) e,
-)
+cut-answered kept n (answer.Done, e) = (cut-answer.Kept kept, kept-told refl (sym e))
+cut-answered kept n (answer.Refused why, e) = (cut-answer.Refused why, refused-told why kept (sym e))
 
 -- a verdict has this judgement's report
 abbrev Speaks : ℕ → Judgement → Type 0

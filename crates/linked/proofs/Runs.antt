@@ -34,17 +34,17 @@ use Rattle.linked.specs.Calls.{Lent, lent, desk-of, if-0, Call, gate, ju
 
 -- the event goes by the number
 pub answer-event : (a : Answer) (e : Event) {n : ℕ} → answer-number a ≡ n → if-answered a e ≡ if-0 n e
-answer-event answer.Done e same = done-changed e nothing (sym same)
-answer-event (answer.Refused why) e same = refused-left why e nothing (sym same)
+answer-event answer.Done e same = done-changed _ (sym same)
+answer-event (answer.Refused why) e same = refused-left why _ (sym same)
 
 verdict-event : (v : Verdict) (e : Event) {n : ℕ} → verdict-report v .number ≡ n → if-admitted v e ≡ if-0 n e
-verdict-event (verdict.Admitted k) e same = done-changed e nothing (sym same)
+verdict-event (verdict.Admitted k) e same = done-changed _ (sym same)
 verdict-event (verdict.Denied m) e same = ap (λ (n : ℕ). if-0 n e) same
-verdict-event (verdict.Refused why) e same = refused-left why e nothing (sym same)
+verdict-event (verdict.Refused why) e same = refused-left why _ (sym same)
 
 pub cut-event : (c : CutAnswer) (e : Event) {n : ℕ} → cut-report c .number ≡ n → if-cut c e ≡ if-0 n e
-cut-event (cut-answer.Kept k) e same = done-changed e nothing (sym same)
-cut-event (cut-answer.Refused why) e same = refused-left why e nothing (sym same)
+cut-event (cut-answer.Kept k) e same = done-changed _ (sym same)
+cut-event (cut-answer.Refused why) e same = refused-left why _ (sym same)
 
 -- number 0 is 'done', 'kept' and 'admitted', and an answer's other numbers are refusals
 pub done-of : (a : Answer) → answer-number a ≡ 0 → a ≡ answer.Done

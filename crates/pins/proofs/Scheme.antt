@@ -6,8 +6,7 @@ use lib.ListN.{getD}
 use native.Mathlib.Omega.{arith}
 use Rattle.region.specs.Answer.{Report, refusal-number}
 use Rattle.region.specs.declared.Refusal.{Refusal}
-use Rattle.region.specs.declared.Answer.the-variants as answer
-use Rattle.region.proofs.AnswerLaws.{answers-by-number, refusal-not-done}
+use Rattle.region.proofs.AnswerLaws.{refusal-not-done}
 
 pub same {ℓ} : {A : Type ℓ} {x y z : A} → x ≡ z → y ≡ z → x ≡ y
 same p q = p ∙ sym q
@@ -20,9 +19,6 @@ Settles {A} report = (a b : A) → report a ≡ report b → a ≡ b
 abbrev pub value-of : Report → ℕ
 value-of r = getD (r .values) 0 0
 
--- refusals go by their numbers, and none has 0
-pub refusals-by-number : (a b : Refusal) → refusal-number a ≡ refusal-number b → a ≡ b
-refusals-by-number a b e = let s : answer.Refused a ≡ answer.Refused b = answers-by-number (answer.Refused a) (answer.Refused b) e in cc
-
+-- no refusal's number is 0
 pub refusal-is-not-done : (why : Refusal) → 0 ≡ refusal-number why → ⊥
 refusal-is-not-done why e = omega (arith, refusal-not-done why, e)

@@ -5,6 +5,7 @@ use mathlib.Core.List.{List}
 use denote.Ref.{RefT, ptr, now}
 use Rattle.region.specs.Answer.{Report}
 use Rattle.region.specs.declared.Answer.{Answer}
+use Rattle.region.proofs.AnswerLaws.{refusals-by-number}
 use Rattle.writelog.specs.Write.{Writes}
 use Rattle.writelog.specs.Read.{Fills, HandsBack}
 use Rattle.writelog.specs.Flush.{Flushes}
@@ -12,7 +13,7 @@ use Rattle.writelog.specs.Cut.{Cuts, cut-report}
 use Rattle.records.specs.declared.state.State.{State}
 use Rattle.writelog.specs.declared.cut.CutAnswer.{CutAnswer}
 use Rattle.writelog.specs.declared.cut.CutAnswer.the-variants.{Kept, Refused}
-use Rattle.pins.proofs.Scheme.{same, Settles, value-of, refusals-by-number, refusal-is-not-done}
+use Rattle.pins.proofs.Scheme.{same, Settles, value-of, refusal-is-not-done}
 use Rattle.pins.proofs.Region.{answers-settle}
 
 pub cut-reports-settle : Settles cut-report

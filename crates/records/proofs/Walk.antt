@@ -114,5 +114,5 @@ module _ (L : ℕ) (st : State) (n : ℕ) where
         room = omega (arith, ap (λ (k : ℕ). together (drop k (log-records st))) from-first, s .room, s .buffer);
       }
 
-  pub all-writes : (log : List ℕ) → last-writes st (st .count) log 0 ≡ writes-of (log-records st) log
-  all-writes log = ap (λ (k : ℕ). writes-of (drop k (log-records st)) log) (sub-self (st .count))
+pub all-writes : (st : State) (log : List ℕ) → last-writes st (st .count) log 0 ≡ writes-of (log-records st) log
+all-writes st log = ap (λ (k : ℕ). writes-of (drop k (log-records st)) log) (sub-self (st .count))

@@ -9,7 +9,7 @@ use lib.ListN.{length}
 use Rattle.region.specs.Limits.{const-persistence-chunk-size, writes-limit, log-limit}
 use Rattle.region.specs.Answer.{if-done}
 use Rattle.region.specs.Pmemspec.{update-bytes}
-use Rattle.region.proofs.AnswerLaws.{done-changed, not-done}
+use Rattle.region.proofs.AnswerLaws.{left}
 use Rattle.replay.specs.AsyncSpec.{can-crash}
 use Rattle.records.specs.State.{log-records, together, appended, emptied}
 use Rattle.records.specs.declared.state.State.{State}
@@ -19,14 +19,6 @@ use Rattle.gate.specs.declared.Verdict.the-variants.{Admitted}
 use Rattle.gate.proofs.Gives.{Holds, empty-holds, judged-holds}
 use Rattle.session.specs.History.{Event, nothing, written, happen, settled}
 use Rattle.session.specs.Run.{Desk, desk, seen}
-
--- what a promise says of memory, where the number is 0 and where it is not
-module _ {A : Type 0} {n : ℕ} {x : A} (after before : A) (e : x ≡ if-done n after before) where
-  pub changed : n ≡ 0 → x ≡ after
-  changed none = e ∙ sym (done-changed after before none)
-
-  pub left : {k : ℕ} → 0 < k → n ≡ k → x ≡ before
-  left refusal some = e ∙ not-done n after before (rw some refusal)
 
 -- the state is one that every call accepts, and every image that a cut could leave obeys the sheet
 abbrev pub HoldsAt : List ℕ → Desk → Type 0
@@ -50,10 +42,10 @@ module _ (sheet image : List ℕ) (st : State) (log : List ℕ) (h : HoldsAt she
   -- a number above 0 leaves all as it was
   module _ {n k : ℕ} (refusal : 0 < k) (some : n ≡ k) {st′ : State} (t : State) (s : st′ ≡ if-done n t st) where
     pub log-stays : {log′ : List ℕ} (l : List ℕ) → log′ ≡ if-done n l log → Keeps sheet here nothing (desk image st′ log′)
-    log-stays l e = unmoved (ap₂ (desk image) (left t st s refusal some) (left l log e refusal some))
+    log-stays l e = unmoved (ap₂ (desk image) (left t s refusal some) (left l e refusal some))
 
     pub image-stays : {image′ : List ℕ} (i : List ℕ) → image′ ≡ if-done n i image → Keeps sheet here nothing (desk image′ st′ log)
-    image-stays i e = unmoved (ap₂ (λ (x : List ℕ) (t : State). desk x t log) (left i image e refusal some) (left t st s refusal some))
+    image-stays i e = unmoved (ap₂ (λ (x : List ℕ) (t : State). desk x t log) (left i e refusal some) (left t s refusal some))
 
   -- an admitted write, by whichever call it is recorded
   pub records : {work : List ℕ} {addr : ℕ} {bytes : List ℕ} {n : ℕ} {work′ : List ℕ} {st′ : State} {log′ : List ℕ}

@@ -11,7 +11,7 @@ use Rattle.region.specs.Answer.{Report}
 use Rattle.region.specs.declared.Answer.{Answer}
 use Rattle.region.specs.declared.Answer.the-variants as answer
 use Rattle.region.specs.declared.Refusal.{Refusal}
-use Rattle.region.proofs.AnswerLaws.{refusal-not-done}
+use Rattle.region.proofs.AnswerLaws.{refusal-not-done, changed, left}
 use Rattle.replay.specs.AsyncSpec.{AsyncView, committed, readable, flush-selective, can-crash}
 use Rattle.replay.specs.Rows.{rows-at}
 use Rattle.cuts.specs.Bits as bits
@@ -42,7 +42,7 @@ use Rattle.tape.proofs.PredictLaws.{predicted-cut}
 use Rattle.session.specs.History.{Event, nothing, written, flushed, cut-by, reopened, if-answered, if-admitted, if-cut, rows-there, none-kept, happen, settled}
 use Rattle.session.specs.Run as run
 use Rattle.session.specs.Run.{Desk, desk, seen, Step}
-use Rattle.session.proofs.Keeps.{changed, left, HoldsAt, Keeps, stays, unmoved, log-stays, image-stays, records, settles}
+use Rattle.session.proofs.Keeps.{HoldsAt, Keeps, stays, unmoved, log-stays, image-stays, records, settles}
 
 -- the number of a report
 pub numbered : {r : Report} {n : ℕ} {values : List ℕ} → r ≡ record { number = n; values = values } → n ≡ r .number
@@ -74,7 +74,7 @@ module _ (sheet image : List ℕ) (st : State) (log : List ℕ) (h : HoldsAt she
       → Gates image st log sheet work addr bytes v st′ log′ work′ → Keeps sheet here (if-admitted v (written addr bytes)) (desk image st′ log′)
   gate-keeps {work} {addr} {bytes} (verdict.Admitted n) p =
       let none = numbered (p .answers) in
-      records sheet image st log h (gate-judges image st log sheet work addr bytes p) (changed _ _ (p .state-after) none) (changed _ _ (p .log-after) none)
+      records sheet image st log h (gate-judges image st log sheet work addr bytes p) (changed _ (p .state-after) none) (changed _ (p .log-after) none)
   gate-keeps (verdict.Denied m) p = log-stays sheet image st log h (lit< tt) (numbered (p .answers)) _ (p .state-after) _ (p .log-after)
   gate-keeps (verdict.Refused why) p = log-stays sheet image st log h (refusal-not-done why) (numbered (p .answers)) _ (p .state-after) _ (p .log-after)
 
@@ -86,7 +86,7 @@ module _ (sheet image : List ℕ) (st : State) (log : List ℕ) (h : HoldsAt she
       → (a : Answer) {st′ : State} {log′ : List ℕ} → Writes image st log addr bytes a st′ log′ → Keeps sheet here (if-answered a (written addr bytes)) (desk image st′ log′)
   write-keeps j answer.Done p =
       let none = sym (p .answers) in
-      records sheet image st log h j (changed _ _ (p .state-after) none) (changed _ _ (p .log-after) none)
+      records sheet image st log h j (changed _ (p .state-after) none) (changed _ (p .log-after) none)
   write-keeps j (answer.Refused why) p = refused-write-keeps p
 
   refused-tape-write-keeps : {tape : List ℕ} {start : ℕ} {predicted : List ℕ} {addr : ℕ} {bytes : List ℕ} {why : Refusal} {st′ : State} {log′ predicted′ : List ℕ}
@@ -98,7 +98,7 @@ module _ (sheet image : List ℕ) (st : State) (log : List ℕ) (h : HoldsAt she
       → TapeWrites image st log tape start predicted addr bytes a st′ log′ predicted′ → Keeps sheet here (if-answered a (written addr bytes)) (desk image st′ log′)
   tape-write-keeps j answer.Done p =
       let none = sym (p .answers) in
-      records sheet image st log h j (changed _ _ (p .state-after) none) (changed _ _ (p .log-after) none)
+      records sheet image st log h j (changed _ (p .state-after) none) (changed _ (p .log-after) none)
   tape-write-keeps j (answer.Refused why) p = refused-tape-write-keeps p
 
   -- endings: an image that a cut could leave, and an empty log
@@ -122,7 +122,7 @@ module _ (sheet image : List ℕ) (st : State) (log : List ℕ) (h : HoldsAt she
   flush-keeps : (a : Answer) {st′ : State} {image′ : List ℕ} → Flushes image st log a st′ image′ → Keeps sheet here (if-answered a flushed) (desk image′ st′ log)
   flush-keeps answer.Done p =
       let none = sym (p .answers) in
-      flushes (changed _ _ (p .state-after) none) (changed _ _ (p .image-after) none)
+      flushes (changed _ (p .state-after) none) (changed _ (p .image-after) none)
   flush-keeps (answer.Refused why) p = image-stays sheet image st log h (refusal-not-done why) (sym (p .answers)) _ (p .state-after) _ (p .image-after)
 
   -- a table has a row for each record, which is one for each outstanding write
@@ -131,8 +131,8 @@ module _ (sheet image : List ℕ) (st : State) (log : List ℕ) (h : HoldsAt she
   cut-keeps {table} (cut-answer.Kept k) p =
       let none = numbered (p .answers) in
       let counted = writes-counted image st log (omega (arith, h .sized, h .facts .few)) in
-      cuts table 0 (changed _ _ (p .state-after) none)
-      (changed _ _ (p .image-after) none
+      cuts table 0 (changed _ (p .state-after) none)
+      (changed _ (p .image-after) none
       ∙ ap (λ (n : ℕ). flush-selective const-persistence-chunk-size (seen here) (rows-at (chunks image) n table 0)) (sym counted))
   cut-keeps (cut-answer.Refused why) p = image-stays sheet image st log h (refusal-not-done why) (numbered (p .answers)) _ (p .state-after) _ (p .image-after)
 
@@ -140,7 +140,7 @@ module _ (sheet image : List ℕ) (st : State) (log : List ℕ) (h : HoldsAt she
       → TapeFlushes image st log tape start predicted a st′ start′ image′ predicted′ → Keeps sheet here (if-answered a flushed) (desk image′ st′ log)
   tape-flush-keeps answer.Done p =
       let none = sym (p .answers) in
-      flushes (changed _ _ (p .state-after) none) (changed _ _ (p .image-after) none)
+      flushes (changed _ (p .state-after) none) (changed _ (p .image-after) none)
   tape-flush-keeps (answer.Refused why) p = image-stays sheet image st log h (refusal-not-done why) (sym (p .answers)) _ (p .state-after) _ (p .image-after)
 
   -- a cut that the tape foretells goes by the epoch's rows
@@ -148,9 +148,9 @@ module _ (sheet image : List ℕ) (st : State) (log : List ℕ) (h : HoldsAt she
       → TapeCuts image st log tape start predicted a st′ start′ image′ predicted′ → Keeps sheet here (if-cut a (cut-by tape (start + 1))) (desk image′ st′ log)
   tape-cut-keeps {tape} {start} {predicted} (cut-answer.Kept k) p =
       let none = numbered (p .answers) in
-      let ending = ending-done (length image) st (length log) (length predicted) false tape start none in
-      cuts tape (start + 1) (changed _ _ (p .state-after) none)
-      (changed _ _ (p .image-after) none ∙ predicted-cut const-persistence-chunk-size tape start (seen here) (ending .foretold))
+      let ending = ending-done none in
+      cuts tape (start + 1) (changed _ (p .state-after) none)
+      (changed _ (p .image-after) none ∙ predicted-cut const-persistence-chunk-size tape start (seen here) (ending .foretold))
   tape-cut-keeps (cut-answer.Refused why) p = image-stays sheet image st log h (refusal-not-done why) (numbered (p .answers)) _ (p .state-after) _ (p .image-after)
 
   -- a reopening loses what was outstanding and leaves the image, whatever memory it is handed for state and log
@@ -163,7 +163,7 @@ module _ (sheet image : List ℕ) (st : State) (log : List ℕ) (h : HoldsAt she
   open-keeps : (a : Answer) {st′ : State} → Opens image st log sheet a st′ → Keeps sheet here (if-answered a reopened) (desk image st′ log)
   open-keeps answer.Done p = reopened-keeps p
   open-keeps (answer.Refused why) p =
-      unmoved sheet image st log h (ap (λ (t : State). desk image t log) (left _ _ (p .state-after) (refusal-not-done why) (sym (p .answers))))
+      unmoved sheet image st log h (ap (λ (t : State). desk image t log) (left _ (p .state-after) (refusal-not-done why) (sym (p .answers))))
 
 pub step-keeps : (sheet : List ℕ) {d : Desk} {e : Event} {d′ : Desk} → HoldsAt sheet d → Step sheet d e d′ → Keeps sheet d e d′
 step-keeps sheet h (run.gate {answer = a} p) = gate-keeps sheet _ _ _ h a p

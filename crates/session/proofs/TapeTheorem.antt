@@ -9,7 +9,7 @@ use lib.ListN.{take}
 use Rattle.region.specs.Limits.{const-persistence-chunk-size}
 use Rattle.region.specs.declared.Answer.{Answer}
 use Rattle.region.specs.declared.Answer.the-variants as answer
-use Rattle.region.proofs.AnswerLaws.{refusal-not-done}
+use Rattle.region.proofs.AnswerLaws.{refusal-not-done, left}
 use Rattle.replay.specs.AsyncSpec.{AsyncView, write}
 use Rattle.records.specs.State.{writes-of}
 use Rattle.records.specs.declared.state.State.{State}
@@ -29,7 +29,7 @@ use Rattle.session.specs.Run as run
 use Rattle.session.specs.Run.{Desk, desk, seen, Step, Run}
 use Rattle.session.specs.TapeRun.{TapeDesk, TapeStep, judged-write, flush, cut, reopen, restart, other, TapeRun, opened, _and_, tape-throughout}
 use Rattle.session.specs.TapeTheorem.{Told, predicted-of, epoch-over, tell, replay-by-tape, prediction, filled, TapeSession}
-use Rattle.session.proofs.Keeps.{left, HoldsAt}
+use Rattle.session.proofs.Keeps.{HoldsAt}
 use Rattle.session.proofs.Steps.{numbered, step-keeps}
 use Rattle.session.proofs.Theorem.{invariant, session}
 
@@ -80,14 +80,14 @@ module _ (sheet tape : List ℕ) where
         → now (desk image′ st′ log) start′ ≡ tell C tape here (if-answered a flushed)
     unfolding tell
     flush-tells {predicted} answer.Done p = ending-tells (step-of-flush image st log tape start predicted (h .sized) p (sym (p .answers)) .ending)
-    flush-tells (answer.Refused why) p = still h (run.tape-flush p) (left _ _ (p .start-after) (refusal-not-done why) (sym (p .answers)))
+    flush-tells (answer.Refused why) p = still h (run.tape-flush p) (left _ (p .start-after) (refusal-not-done why) (sym (p .answers)))
 
     cut-tells : {predicted : List ℕ} (a : CutAnswer) {st′ : State} {start′ : ℕ} {image′ predicted′ : List ℕ}
         → TapeCuts image st log tape start predicted a st′ start′ image′ predicted′
         → now (desk image′ st′ log) start′ ≡ tell C tape here (if-cut a (cut-by tape (start + 1)))
     unfolding tell
     cut-tells {predicted} (cut-answer.Kept k) p = ending-tells (step-of-cut image st log tape start predicted (h .sized) p (numbered (p .answers)) .ending)
-    cut-tells (cut-answer.Refused why) p = still h (run.tape-cut p) (left _ _ (p .start-after) (refusal-not-done why) (numbered (p .answers)))
+    cut-tells (cut-answer.Refused why) p = still h (run.tape-cut p) (left _ (p .start-after) (refusal-not-done why) (numbered (p .answers)))
 
     -- on an empty log the view is the image alone, before and after, whatever memory is handed in for state and log
     reopened-tells : {st₀ : State} {log₀ : List ℕ} {st′ : State} → st .count ≡ 0 → Opens image st₀ log₀ sheet answer.Done st′
@@ -169,21 +169,21 @@ module _ (sheet tape : List ℕ) where
         → Filled (h then if-answered a (written addr bytes)) predicted′
     unfolding filled replay-by-tape tell
     after-write answer.Done p before f = write-is-predicted p
-    after-write (answer.Refused why) p before f = left _ _ (p .predicted-after) (refusal-not-done why) (sym (p .answers)) ∙ before f
+    after-write (answer.Refused why) p before f = left _ (p .predicted-after) (refusal-not-done why) (sym (p .answers)) ∙ before f
 
     after-flush : {predicted : List ℕ} (a : Answer) {st′ : State} {start′ : ℕ} {image′ predicted′ : List ℕ}
         → TapeFlushes (d .image) (d .state) (d .log) tape start predicted a st′ start′ image′ predicted′ → Filled h predicted
         → Filled (h then if-answered a flushed) predicted′
     unfolding filled replay-by-tape tell
     after-flush answer.Done p before f = flush-is-predicted p .1
-    after-flush (answer.Refused why) p before f = left _ _ (p .predicted-after) (refusal-not-done why) (sym (p .answers)) ∙ before f
+    after-flush (answer.Refused why) p before f = left _ (p .predicted-after) (refusal-not-done why) (sym (p .answers)) ∙ before f
 
     after-cut : {predicted : List ℕ} (a : CutAnswer) {st′ : State} {start′ : ℕ} {image′ predicted′ : List ℕ}
         → TapeCuts (d .image) (d .state) (d .log) tape start predicted a st′ start′ image′ predicted′ → Filled h predicted
         → Filled (h then if-cut a (cut-by tape (start + 1))) predicted′
     unfolding filled replay-by-tape tell
     after-cut (cut-answer.Kept k) p before f = cut-is-predicted p .1
-    after-cut (cut-answer.Refused why) p before f = left _ _ (p .predicted-after) (refusal-not-done why) (numbered (p .answers)) ∙ before f
+    after-cut (cut-answer.Refused why) p before f = left _ (p .predicted-after) (refusal-not-done why) (numbered (p .answers)) ∙ before f
 
     after-opening : {predicted : List ℕ} (a : Answer) → Filled h predicted → Filled (h then if-answered a reopened) predicted
     unfolding filled replay-by-tape tell

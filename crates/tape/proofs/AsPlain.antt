@@ -3,7 +3,7 @@
 use Prim.Native.Nat.{ℕ, _+_, _*_, _≤_}
 use native.Mathlib.Omega.{arith}
 use mathlib.Core.Path.{_≡_, sym, ap, ap₂, _∙_}
-use mathlib.Core.Bool.{true, false}
+use mathlib.Core.Bool.{true}
 use mathlib.Core.List.{List, [], _∷_, _++_}
 use lib.ListN.{length, take, drop, length-drop, take-append-drop}
 use lib.Seq.{length-take-le}
@@ -73,7 +73,7 @@ module _ (image : List ℕ) (st : State) (log tape : List ℕ) (start : ℕ) (pr
       → TapeFlushes image st log tape start predicted answer st′ start′ image′ predicted′ → tape-flush-number image st log tape start predicted ≡ 0
       → Flushes image st log answer st′ image′
   tape-flush-is-a-flush p none =
-      let told = ending-done (length image) st (length log) (length predicted) true tape start none in
+      let told = ending-done none in
       let same : tape-flush-number image st log tape start predicted ≡ flush-number image st log = none ∙ sym (flush-sound image st log (facts-sound (length image) st (length log) (told .facts))) in
       record {
         answers = p .answers ∙ same;
@@ -89,7 +89,7 @@ module _ (image : List ℕ) (st : State) (log tape : List ℕ) (start : ℕ) (pr
       → TapeCuts image st log tape start predicted answer st′ start′ image′ predicted′ → tape-cut-number image st log tape start predicted ≡ 0
       → Cuts image st log table answer st′ image′
   tape-cut-is-a-cut sized p none =
-      let told = ending-done (length image) st (length log) (length predicted) false tape start none in
+      let told = ending-done none in
       let fits = told .epoch .there .fits in
       let rows = rows-of-epoch-table (chunks image) (st .count) tape start fits in
       let same : tape-cut-number image st log tape start predicted ≡ cut-number image st log table

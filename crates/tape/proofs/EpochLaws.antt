@@ -10,10 +10,19 @@ use lib.Dec.{leb, ltb, eqb}
 use lib.ListN.{length}
 use borrow.Author.Tests.{le-leb, lt-leb, leb-true, lt-ltb, le-ltb, ltb-true, eq-eqb, ne-eqb}
 use Rattle.region.specs.Answer.{unless}
+use Rattle.region.proofs.AnswerLaws.{passed}
 use Rattle.region.proofs.Booleans.{cond-when, cond-unless, and-when, and-unless, both}
 use Rattle.replay.specs.Rows.{rows-filled}
-use Rattle.writelog.proofs.WriteLaws.{passed}
 use Rattle.tape.specs.Epoch.{flush-header, cut-header, header, flush-foretold, header-right, row-place, epoch-there, epoch-number}
+
+-- what it means that the epoch is there, and that it is right
+pub record There (K n : ℕ) (tape : List ℕ) (start : ℕ) : Type 0 where
+  pub begins : start < length tape
+  pub fits : row-place K start n ≤ length tape
+
+pub record Epoch (K n : ℕ) (tape : List ℕ) (start : ℕ) : Type 0 where
+  pub there : There K n tape start
+  pub filled : rows-filled K n tape (start + 1) ≡ true
 
 module _ (K n : ℕ) (tape : List ℕ) (start : ℕ) where
   abbrev rows-fit : Bool
@@ -41,28 +50,17 @@ module _ (K n : ℕ) (tape : List ℕ) (start : ℕ) where
   pub with-header : header-right tape start ≡ true → epoch-there K n tape start ≡ rows-fit
   with-header e = and-when (header-right tape start) rows-fit e
 
-  -- what it means that the epoch is there
-  pub record There : Type 0 where
-    pub headed : header-right tape start ≡ true
-    pub begins : start < length tape
-    pub fits : row-place K start n ≤ length tape
-
-  pub there-facts : epoch-there K n tape start ≡ true → There
+module _ {K n : ℕ} {tape : List ℕ} {start : ℕ} where
+  pub there-facts : epoch-there K n tape start ≡ true → There K n tape start
   there-facts e =
-      let parts = both (header-right tape start) rows-fit e in
-      let first = both (ltb start (length tape)) (flush-foretold tape start || eqb (header tape start) cut-header) (parts .0) in
-      record { headed = parts .0; begins = ltb-true start (length tape) (first .0); fits = leb-true (row-place K start n) (length tape) (parts .1) }
+      let parts = both _ _ e in
+      record { begins = ltb-true _ _ (both _ _ (parts .0) .0); fits = leb-true _ _ (parts .1) }
 
-  pub record Epoch : Type 0 where
-    pub there : There
-    pub filled : rows-filled K n tape (start + 1) ≡ true
-
-  pub epoch-facts : epoch-number K n tape start ≡ 0 → Epoch
+  pub epoch-facts : epoch-number K n tape start ≡ 0 → Epoch K n tape start
   unfolding epoch-number
   epoch-facts e =
-      let a = passed (epoch-there K n tape start) 9 after-10 e in
-      let b = passed (rows-filled K n tape (start + 1)) 8 0 (a .1) in
-      record { there = there-facts (a .0); filled = b .0 }
+      let a = passed _ e in
+      record { there = there-facts (a .0); filled = passed _ (a .1) .0 }
 
 -- the header's test
 module _ (tape : List ℕ) (start : ℕ) where
@@ -85,10 +83,6 @@ module _ (tape : List ℕ) (start : ℕ) where
 
     pub other-header : (header tape start ≡ flush-header → ⊥) → (header tape start ≡ cut-header → ⊥) → header-right tape start ≡ false
     other-header f c = first-test ∙ ap (λ (b : Bool). b || eqb (header tape start) cut-header) (ne-eqb (header tape start) flush-header f) ∙ ne-eqb (header tape start) cut-header c
-
--- "header missing": 10 for every start at or past the end
-pub nothing-past-the-end : (K n : ℕ) (tape : List ℕ) (start : ℕ) → length tape ≤ start → epoch-number K n tape start ≡ 10
-nothing-past-the-end K n tape start h = no-epoch K n tape start (no-header K n tape start (past-the-end tape start h))
 
 -- the bytes of the rows fit behind the header, without a sum of the start
 pub fits-behind : (m start n : ℕ) → start < n → ltb m (n - start) ≡ leb (start + 1 + m) n

@@ -1,6 +1,6 @@
 -- Every future has a tape: whatever is to end each epoch and whatever rows its cut would keep, the tape of the packed rows tells exactly that, whatever bytes stand before and
 -- behind. Assumes nothing.
-use Prim.Native.Nat.{ℕ, suc, _+_, _*_, _^_, _<_}
+use Prim.Native.Nat.{ℕ, zero, suc, _+_, _*_, _^_, _<_}
 use native.Mathlib.Omega.{arith}
 use mathlib.Core.Path.{_≡_, refl, sym, ap, subst, _∙_}
 use mathlib.Core.Bool.{Bool, true, false, cond}
@@ -32,17 +32,10 @@ module _ (K : ℕ) (e : Foreseen) (shaped : rows-of-width K e) where
   pub bytes-of-epoch : are-bytes (epoch-bytes K e)
   bytes-of-epoch = bytes-of-append (cond (e .flushing) flush-header cut-header ∷ []) (packed K (e .rows)) (one (e .flushing)) (packed-right .0)
     where
-      one : (b : Bool) → are-bytes (cond b flush-header cut-header ∷ [])
-      one true = λ i. single i
-        where
-          single : (i : ℕ) → getD (flush-header ∷ []) i 0 < 2 ^ byte-bits
-          single Prim.Native.Nat.zero = lit< tt
-          single (suc i) = lit< tt
-      one false = λ i. single i
-        where
-          single : (i : ℕ) → getD (cut-header ∷ []) i 0 < 2 ^ byte-bits
-          single Prim.Native.Nat.zero = lit< tt
-          single (suc i) = lit< tt
+      one : (b : Bool) (i : ℕ) → getD (cond b flush-header cut-header ∷ []) i 0 < 2 ^ byte-bits
+      one true zero = lit< tt
+      one false zero = lit< tt
+      one b (suc i) = lit< tt
 
   module _ (before after : List ℕ) where
     abbrev tape : List ℕ

@@ -28,7 +28,7 @@ predicted-cut C tape start v e = cond-unless (flush-foretold tape start) (readab
 -- the replay of the log over a copy w of the image
 module _ (image : List ℕ) (st : State) (log tape : List ℕ) (start : ℕ) {w : List ℕ} (same : w ≡ image) where
   walked : last-writes st (st .count) log 0 ≡ view image st log .outstanding-writes
-  walked = all-writes (length image) st (length log) log
+  walked = all-writes st log
 
   pub replayed-whole : flush-foretold tape start ≡ true → committed (flush-writes w (last-writes st (st .count) log 0)) ≡ predicted-now image st log tape start
   replayed-whole e = ap₂ (λ (s : List ℕ) (ws : List Write). committed (flush-writes s ws)) same walked ∙ sym (predicted-flush const-persistence-chunk-size tape start (view image st log) e)

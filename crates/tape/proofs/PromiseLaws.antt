@@ -1,9 +1,9 @@
 -- The promise of a done tape call, and of a refused one. Assumes nothing.
 use Prim.Native.Nat.{ℕ}
-use mathlib.Core.Path.{_≡_, refl, sym, ap, _∙_}
-use mathlib.Core.List.{List, [], _∷_}
+use mathlib.Core.Path.{_≡_, sym, ap, _∙_}
+use mathlib.Core.List.{List}
 use lib.ListN.{length}
-use Rattle.region.specs.Answer.{Report, answer-number, refusal-number, if-done}
+use Rattle.region.specs.Answer.{answer-number, refusal-number}
 use Rattle.region.specs.declared.Refusal.{Refusal}
 use Rattle.region.specs.declared.Answer.{Answer}
 use Rattle.region.specs.declared.Answer.the-variants.{Done, Refused}
@@ -12,22 +12,23 @@ use Rattle.replay.specs.AsyncSpec.{readable}
 use Rattle.records.specs.State.{view, appended, log-with, emptied}
 use Rattle.records.specs.declared.state.State.{State}
 use Rattle.writelog.specs.declared.cut.CutAnswer.the-variants as cut-answer
+use Rattle.writelog.proofs.CutLaws.{kept-told, refused-told}
 use Rattle.tape.specs.Write.{tape-write-number, predicted-with, TapeWrites}
 use Rattle.tape.specs.Ending.{next-start, predicted-now}
 use Rattle.tape.specs.Flush.{tape-flush-number, TapeFlushes}
 use Rattle.tape.specs.Cut.{tape-cut-number, tape-kept, TapeCuts}
 
-module _ (image : List ℕ) (st : State) (log tape : List ℕ) (start : ℕ) (predicted : List ℕ) where
-  module _ (addr : ℕ) (bytes : List ℕ) {answer : Answer} (number : answer-number answer ≡ tape-write-number image st log tape start predicted addr (length bytes)) where
+module _ {image : List ℕ} {st : State} {log tape : List ℕ} {start : ℕ} {predicted : List ℕ} where
+  module _ {addr : ℕ} {bytes : List ℕ} {answer : Answer} (number : answer-number answer ≡ tape-write-number image st log tape start predicted addr (length bytes)) where
     pub tape-writes-done : {st′ : State} {log′ predicted′ : List ℕ} → answer ≡ Done → st′ ≡ appended st addr (length bytes) → log′ ≡ log-with st log bytes → predicted′ ≡ predicted-with image st log tape start addr bytes
         → TapeWrites image st log tape start predicted addr bytes answer st′ log′ predicted′
     tape-writes-done e s l p =
         let none : tape-write-number image st log tape start predicted addr (length bytes) ≡ 0 = sym number ∙ ap answer-number e in
         record {
           answers = number;
-          state-after = s ∙ done-changed (appended st addr (length bytes)) st none;
-          log-after = l ∙ done-changed (log-with st log bytes) log none;
-          predicted-after = p ∙ done-changed (predicted-with image st log tape start addr bytes) predicted none;
+          state-after = s ∙ done-changed _ none;
+          log-after = l ∙ done-changed _ none;
+          predicted-after = p ∙ done-changed _ none;
         }
 
     pub tape-writes-refused : (why : Refusal) → answer ≡ Refused why → TapeWrites image st log tape start predicted addr bytes answer st log predicted
@@ -35,9 +36,9 @@ module _ (image : List ℕ) (st : State) (log tape : List ℕ) (start : ℕ) (pr
         let some : tape-write-number image st log tape start predicted addr (length bytes) ≡ refusal-number why = sym number ∙ ap answer-number e in
         record {
           answers = number;
-          state-after = refused-left why (appended st addr (length bytes)) st some;
-          log-after = refused-left why (log-with st log bytes) log some;
-          predicted-after = refused-left why (predicted-with image st log tape start addr bytes) predicted some;
+          state-after = refused-left why _ some;
+          log-after = refused-left why _ some;
+          predicted-after = refused-left why _ some;
         }
 
   module _ {answer : Answer} (number : answer-number answer ≡ tape-flush-number image st log tape start predicted) where
@@ -47,10 +48,10 @@ module _ (image : List ℕ) (st : State) (log tape : List ℕ) (start : ℕ) (pr
         let none : tape-flush-number image st log tape start predicted ≡ 0 = sym number ∙ ap answer-number e in
         record {
           answers = number;
-          state-after = s ∙ done-changed (emptied st) st none;
-          start-after = a ∙ done-changed (next-start (length image) st start) start none;
-          image-after = i ∙ done-changed (readable (view image st log)) image none;
-          predicted-after = p ∙ done-changed (readable (view image st log)) predicted none;
+          state-after = s ∙ done-changed _ none;
+          start-after = a ∙ done-changed _ none;
+          image-after = i ∙ done-changed _ none;
+          predicted-after = p ∙ done-changed _ none;
         }
 
     pub tape-flushes-refused : (why : Refusal) → answer ≡ Refused why → TapeFlushes image st log tape start predicted answer st start image predicted
@@ -58,34 +59,30 @@ module _ (image : List ℕ) (st : State) (log tape : List ℕ) (start : ℕ) (pr
         let some : tape-flush-number image st log tape start predicted ≡ refusal-number why = sym number ∙ ap answer-number e in
         record {
           answers = number;
-          state-after = refused-left why (emptied st) st some;
-          start-after = refused-left why (next-start (length image) st start) start some;
-          image-after = refused-left why (readable (view image st log)) image some;
-          predicted-after = refused-left why (readable (view image st log)) predicted some;
+          state-after = refused-left why _ some;
+          start-after = refused-left why _ some;
+          image-after = refused-left why _ some;
+          predicted-after = refused-left why _ some;
         }
-
-  -- the report of a number: with the kept count where it is 0
-  abbrev cut-reported : ℕ → Report
-  cut-reported n = record { number = n; values = if-done n (tape-kept image st log tape start ∷ []) [] }
 
   pub tape-cuts-done : {k : ℕ} {st′ : State} {start′ : ℕ} {image′ predicted′ : List ℕ} → tape-cut-number image st log tape start predicted ≡ 0 → k ≡ tape-kept image st log tape start → st′ ≡ emptied st → start′ ≡ next-start (length image) st start
       → image′ ≡ predicted-now image st log tape start → predicted′ ≡ predicted-now image st log tape start
       → TapeCuts image st log tape start predicted (cut-answer.Kept k) st′ start′ image′ predicted′
   tape-cuts-done none kept s a i p =
       record {
-        answers = ap (λ (n : ℕ). record { number = 0; values = n ∷ [] }) kept ∙ ap cut-reported (sym none);
-        state-after = s ∙ done-changed (emptied st) st none;
-        start-after = a ∙ done-changed (next-start (length image) st start) start none;
-        image-after = i ∙ done-changed (predicted-now image st log tape start) image none;
-        predicted-after = p ∙ done-changed (predicted-now image st log tape start) predicted none;
+        answers = kept-told kept none;
+        state-after = s ∙ done-changed _ none;
+        start-after = a ∙ done-changed _ none;
+        image-after = i ∙ done-changed _ none;
+        predicted-after = p ∙ done-changed _ none;
       }
 
   pub tape-cuts-refused : (why : Refusal) → tape-cut-number image st log tape start predicted ≡ refusal-number why → TapeCuts image st log tape start predicted (cut-answer.Refused why) st start image predicted
   tape-cuts-refused why some =
       record {
-        answers = ap (λ (vs : List ℕ). record { number = refusal-number why; values = vs }) (refused-left {n = refusal-number why} why (tape-kept image st log tape start ∷ []) [] refl) ∙ ap cut-reported (sym some);
-        state-after = refused-left why (emptied st) st some;
-        start-after = refused-left why (next-start (length image) st start) start some;
-        image-after = refused-left why (predicted-now image st log tape start) image some;
-        predicted-after = refused-left why (predicted-now image st log tape start) predicted some;
+        answers = refused-told why (tape-kept image st log tape start) some;
+        state-after = refused-left why _ some;
+        start-after = refused-left why _ some;
+        image-after = refused-left why _ some;
+        predicted-after = refused-left why _ some;
       }

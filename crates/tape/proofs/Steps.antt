@@ -1,44 +1,33 @@
 -- What a step by tape does to the view and to the prediction, from the calls' promises: the form that a run of calls is made of. Each law takes a promise of a call that was
--- done; a refused call leaves everything as it was (`refused-write`, `refused-flush`, `refused-cut`). Assumes nothing.
-use Prim.Native.Nat.{ℕ, _≤_, _<_}
+-- done. Assumes nothing.
+use Prim.Native.Nat.{ℕ, _≤_}
 use native.Mathlib.Omega.{arith}
-use mathlib.Core.Path.{_≡_, refl, sym, ap, ap₂, subst⁻¹, _∙_}
-use mathlib.Core.Bool.{true, false}
+use mathlib.Core.Path.{_≡_, sym, ap, ap₂, subst⁻¹, _∙_}
 use mathlib.Core.List.{List, []}
 use lib.ListN.{length}
 use Rattle.region.specs.Limits.{writes-limit, const-persistence-chunk-size}
-use Rattle.region.specs.Answer.{if-done}
 use Rattle.region.specs.View.{can-result-from-write, flush-predicted}
 use Rattle.region.specs.declared.Answer.{Answer}
-use Rattle.region.proofs.AnswerLaws.{not-done, done-changed}
+use Rattle.region.proofs.AnswerLaws.{changed}
 use Rattle.replay.specs.AsyncSpec.{AsyncView, flush, readable, write, can-crash-as}
 use Rattle.cuts.specs.Bits.{chunks}
 use Rattle.cuts.proofs.Flush.{flush-leaves-the-read-image}
-use Rattle.records.specs.State.{view, writes-of, appended, log-with, emptied}
+use Rattle.records.specs.State.{view, appended, log-with, emptied}
 use Rattle.records.specs.declared.state.State.{State}
 use Rattle.writelog.specs.declared.cut.CutAnswer.{CutAnswer}
 use Rattle.tape.specs.Epoch.{epoch-rows, row-place}
 use Rattle.tape.specs.Foretold.{foretold, predicted-image}
-use Rattle.tape.specs.Write.{tape-write-number, predicted-with, TapeWrites}
-use Rattle.tape.specs.Ending.{next-start, predicted-now}
+use Rattle.tape.specs.Write.{tape-write-number, TapeWrites}
+use Rattle.tape.specs.Ending.{next-start}
 use Rattle.tape.specs.Flush.{tape-flush-number, TapeFlushes}
 use Rattle.tape.specs.Cut.{tape-cut-number, TapeCuts}
-use Rattle.records.proofs.Views.{sized-of-appended, view-of-recorded, writes-counted}
+use Rattle.records.proofs.Views.{view-of-recorded, view-of-emptied, writes-counted}
 use Rattle.tape.proofs.NumberLaws.{tape-write-done, ending-done}
 use Rattle.tape.proofs.Foretells.{predicted-of-nothing, foretold-of-a-write, foretold-flush-is-predicted, foretold-cut-is-a-crash}
 use Rattle.tape.proofs.PredictLaws.{predicted-flush}
 
 abbrev C : ℕ
 C = const-persistence-chunk-size
-
--- an emptied log has nothing outstanding
-view-of-emptied : (image : List ℕ) (st : State) (log : List ℕ) → view image (emptied st) log ≡ record { state-at-last-flush = image; outstanding-writes = [] }
-unfolding writes-of
-view-of-emptied image st log = refl
-
--- what goes by number 0
-came-true : {A : Type 0} {number : ℕ} {x : A} (after before : A) → number ≡ 0 → x ≡ if-done number after before → x ≡ after
-came-true after before none e = e ∙ sym (done-changed after before none)
 
 module _ (image : List ℕ) (st : State) (log tape : List ℕ) (start : ℕ) (predicted : List ℕ) (sized : length (st .records) ≡ writes-limit) where
   abbrev v : AsyncView
@@ -47,7 +36,6 @@ module _ (image : List ℕ) (st : State) (log tape : List ℕ) (start : ℕ) (pr
   -- a write: the view is the original's `write`, the prediction goes with it, and the durable state has got some of the write's chunks
   pub record StepOfWrite (addr : ℕ) (bytes : List ℕ) (st′ : State) (log′ predicted′ : List ℕ) : Type 0 where
     pub view-after : view image st′ log′ ≡ write v addr bytes
-    pub sized-after : length (st′ .records) ≡ writes-limit
     pub predicted-after : predicted′ ≡ predicted-image C tape start (write v addr bytes)
     pub foretold-after : can-result-from-write C (foretold C tape start (view image st′ log′)) (foretold C tape start v) addr bytes
 
@@ -55,23 +43,21 @@ module _ (image : List ℕ) (st : State) (log tape : List ℕ) (start : ℕ) (pr
       → TapeWrites image st log tape start predicted addr bytes answer st′ log′ predicted′ → tape-write-number image st log tape start predicted addr (length bytes) ≡ 0
       → StepOfWrite addr bytes st′ log′ predicted′
   step-of-write {addr} {bytes} {answer} {st′} {log′} {predicted′} p none =
-      let told = tape-write-done image st log tape start predicted addr (length bytes) none in
-      let s : st′ ≡ appended st addr (length bytes) = came-true (appended st addr (length bytes)) st none (p .state-after) in
-      let l : log′ ≡ log-with st log bytes = came-true (log-with st log bytes) log none (p .log-after) in
+      let told = tape-write-done none in
+      let s : st′ ≡ appended st addr (length bytes) = changed _ (p .state-after) none in
+      let l : log′ ≡ log-with st log bytes = changed _ (p .log-after) none in
       let whole : view image (appended st addr (length bytes)) (log-with st log bytes) ≡ write v addr bytes
       = view-of-recorded image st log addr bytes sized (told .facts) (told .room .room) in
       let after : view image st′ log′ ≡ write v addr bytes = ap₂ (view image) s l ∙ whole in
       record {
         view-after = after;
-        sized-after = ap (λ t. length (t .records)) s ∙ sized-of-appended st addr (length bytes) sized;
-        predicted-after = came-true (predicted-with image st log tape start addr bytes) predicted none (p .predicted-after) ∙ ap (predicted-image C tape start) whole;
+        predicted-after = changed _ (p .predicted-after) none ∙ ap (predicted-image C tape start) whole;
         foretold-after = subst⁻¹ (λ w. can-result-from-write C (foretold C tape start w) (foretold C tape start v) addr bytes) after (foretold-of-a-write C tape start v addr bytes);
       }
 
   -- an ending: the image is the predicted one, the log is empty, the start lies behind the epoch's rows, and in the next epoch the image itself is predicted
   pub record StepOfEnding (st′ : State) (start′ : ℕ) (image′ predicted′ : List ℕ) : Type 0 where
     pub view-after : view image′ st′ log ≡ record { state-at-last-flush = predicted-image C tape start v; outstanding-writes = [] }
-    pub sized-after : length (st′ .records) ≡ writes-limit
     pub image-after : image′ ≡ predicted-image C tape start v
     pub start-after : start′ ≡ row-place (chunks C v) start (length (v .outstanding-writes))
     pub predicted-after : predicted′ ≡ predicted-image C tape start′ (view image′ st′ log)
@@ -80,10 +66,9 @@ module _ (image : List ℕ) (st : State) (log tape : List ℕ) (start : ℕ) (pr
       → StepOfEnding st′ start′ image′ predicted′
   ended {st′} {start′} {image′} few s a i p =
       let after : view image′ st′ log ≡ record { state-at-last-flush = predicted-image C tape start v; outstanding-writes = [] }
-      = ap₂ (λ x t. view x t log) i s ∙ view-of-emptied (predicted-image C tape start v) st log in
+      = ap₂ (λ x t. view x t log) i s ∙ view-of-emptied st (predicted-image C tape start v) log in
       record {
         view-after = after;
-        sized-after = ap (λ t. length (t .records)) s ∙ sized;
         image-after = i;
         start-after = a ∙ ap (row-place (chunks C v) start) (sym (writes-counted image st log (omega (arith, sized))));
         predicted-after = p ∙ sym (ap (predicted-image C tape start′) after ∙ predicted-of-nothing C tape start′ (predicted-image C tape start v));
@@ -99,9 +84,9 @@ module _ (image : List ℕ) (st : State) (log tape : List ℕ) (start : ℕ) (pr
       → TapeFlushes image st log tape start predicted answer st′ start′ image′ predicted′ → tape-flush-number image st log tape start predicted ≡ 0
       → StepOfFlush st′ start′ image′ predicted′
   step-of-flush {answer} {st′} {start′} {image′} {predicted′} p none =
-      let told = ending-done (length image) st (length log) (length predicted) true tape start none in
+      let told = ending-done none in
       let read : predicted-image C tape start v ≡ readable v = predicted-flush C tape start v (told .foretold) in
-      let end = ended (told .facts .few) (came-true (emptied st) st none (p .state-after)) (came-true (next-start (length image) st start) start none (p .start-after)) (came-true (readable v) image none (p .image-after) ∙ sym read) (came-true (readable v) predicted none (p .predicted-after) ∙ sym read) in
+      let end = ended (told .facts .few) (changed _ (p .state-after) none) (changed _ (p .start-after) none) (changed _ (p .image-after) none ∙ sym read) (changed _ (p .predicted-after) none ∙ sym read) in
       record {
         was-predicted = foretold-flush-is-predicted C tape start v (told .foretold);
         flushed = end .view-after ∙ ap (λ x. record { state-at-last-flush = x; outstanding-writes = [] }) read ∙ sym (flush-leaves-the-read-image v);
@@ -117,50 +102,9 @@ module _ (image : List ℕ) (st : State) (log tape : List ℕ) (start : ℕ) (pr
       → TapeCuts image st log tape start predicted answer st′ start′ image′ predicted′ → tape-cut-number image st log tape start predicted ≡ 0
       → StepOfCut st′ start′ image′ predicted′
   step-of-cut {answer} {st′} {start′} {image′} {predicted′} p none =
-      let told = ending-done (length image) st (length log) (length predicted) false tape start none in
-      let i : image′ ≡ predicted-image C tape start v = came-true (predicted-now image st log tape start) image none (p .image-after) in
+      let told = ending-done none in
+      let i : image′ ≡ predicted-image C tape start v = changed _ (p .image-after) none in
       record {
         crashed = subst⁻¹ (λ x. can-crash-as C v x (epoch-rows (chunks C v) (length (v .outstanding-writes)) tape start)) i (foretold-cut-is-a-crash C tape start v (told .foretold));
-        ending = ended (told .facts .few) (came-true (emptied st) st none (p .state-after)) (came-true (next-start (length image) st start) start none (p .start-after)) i (came-true (predicted-now image st log tape start) predicted none (p .predicted-after));
+        ending = ended (told .facts .few) (changed _ (p .state-after) none) (changed _ (p .start-after) none) i (changed _ (p .predicted-after) none);
       }
-
-  -- an accepted flush or cut leaves what was predicted, where the buffer held the prediction before
-  pub leaves-the-predicted : {st′ : State} {start′ : ℕ} {image′ predicted′ : List ℕ} → predicted ≡ predicted-image C tape start v → StepOfEnding st′ start′ image′ predicted′ → image′ ≡ predicted
-  leaves-the-predicted p e = e .image-after ∙ sym p
-
--- a refused call changes nothing and uses no tape
-left-alone : {A : Type 0} {x : A} (number : ℕ) (after before : A) → 0 < number → x ≡ if-done number after before → x ≡ before
-left-alone number after before h e = e ∙ not-done number after before h
-
-module _ (image : List ℕ) (st : State) (log tape : List ℕ) (start : ℕ) (predicted : List ℕ) where
-  pub refused-write : {addr : ℕ} {bytes : List ℕ} {answer : Answer} {st′ : State} {log′ predicted′ : List ℕ}
-      → TapeWrites image st log tape start predicted addr bytes answer st′ log′ predicted′ → 0 < tape-write-number image st log tape start predicted addr (length bytes)
-      → (st′ ≡ st) × (log′ ≡ log) × (predicted′ ≡ predicted)
-  refused-write {addr} {bytes} p h =
-      let number = tape-write-number image st log tape start predicted addr (length bytes) in (
-        left-alone number (appended st addr (length bytes)) st h (p .state-after),
-        left-alone number (log-with st log bytes) log h (p .log-after),
-        left-alone number (predicted-with image st log tape start addr bytes) predicted h (p .predicted-after),
-      )
-
-  pub refused-flush : {answer : Answer} {st′ : State} {start′ : ℕ} {image′ predicted′ : List ℕ}
-      → TapeFlushes image st log tape start predicted answer st′ start′ image′ predicted′ → 0 < tape-flush-number image st log tape start predicted
-      → (st′ ≡ st) × (start′ ≡ start) × (image′ ≡ image) × (predicted′ ≡ predicted)
-  refused-flush p h =
-      let number = tape-flush-number image st log tape start predicted in (
-        left-alone number (emptied st) st h (p .state-after),
-        left-alone number (next-start (length image) st start) start h (p .start-after),
-        left-alone number (readable (view image st log)) image h (p .image-after),
-        left-alone number (readable (view image st log)) predicted h (p .predicted-after),
-      )
-
-  pub refused-cut : {answer : CutAnswer} {st′ : State} {start′ : ℕ} {image′ predicted′ : List ℕ}
-      → TapeCuts image st log tape start predicted answer st′ start′ image′ predicted′ → 0 < tape-cut-number image st log tape start predicted
-      → (st′ ≡ st) × (start′ ≡ start) × (image′ ≡ image) × (predicted′ ≡ predicted)
-  refused-cut p h =
-      let number = tape-cut-number image st log tape start predicted in (
-        left-alone number (emptied st) st h (p .state-after),
-        left-alone number (next-start (length image) st start) start h (p .start-after),
-        left-alone number (predicted-now image st log tape start) image h (p .image-after),
-        left-alone number (predicted-now image st log tape start) predicted h (p .predicted-after),
-      )

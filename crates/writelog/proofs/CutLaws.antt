@@ -4,15 +4,27 @@ use mathlib.Core.Path.{_≡_, refl, sym, ap, _∙_}
 use mathlib.Core.Bool.{true, false}
 use mathlib.Core.List.{List, [], _∷_}
 use lib.ListN.{length}
-use Rattle.region.specs.Answer.{unless, refusal-number, if-done}
+use Rattle.region.specs.Answer.{Report, unless, refusal-number, if-done}
 use Rattle.region.specs.declared.Refusal.{Refusal}
 use Rattle.region.proofs.AnswerLaws.{done-changed, refused-left}
 use Rattle.region.proofs.Booleans.{cond-when, cond-unless}
 use Rattle.replay.specs.Rows.{rows-right}
 use Rattle.records.specs.State.{sound, emptied}
-use Rattle.writelog.specs.Cut.{chunks, cut-number, cut-image, cut-kept, Cuts}
+use Rattle.writelog.specs.Cut.{cut-report, chunks, cut-number, cut-image, cut-kept, Cuts}
 use Rattle.records.specs.declared.state.State.{State}
 use Rattle.writelog.specs.declared.cut.CutAnswer.the-variants.{Kept, Refused}
+
+-- a cut's report: its number, and the kept count where it is done
+abbrev pub cut-told : ℕ → ℕ → Report
+cut-told kept n = record { number = n; values = if-done n (kept ∷ []) [] }
+
+pub kept-told : {k kept n : ℕ} → k ≡ kept → n ≡ 0 → cut-report (Kept k) ≡ cut-told kept n
+kept-told {kept = kept} e none = ap (λ (k : ℕ). cut-told k 0) e ∙ ap (cut-told kept) (sym none)
+
+pub refused-told : (why : Refusal) (kept : ℕ) {n : ℕ} → n ≡ refusal-number why → cut-report (Refused why) ≡ cut-told kept n
+refused-told why kept some =
+    ap (λ (vs : List ℕ). record { number = refusal-number why; values = vs }) (refused-left {n = refusal-number why} why (kept ∷ []) refl)
+    ∙ ap (cut-told kept) (sym some)
 
 module _ (image : List ℕ) (st : State) (log table : List ℕ) where
   abbrev after-1 : ℕ
@@ -32,18 +44,17 @@ module _ (image : List ℕ) (st : State) (log table : List ℕ) where
 
   pub cuts-done : cut-number image st log table ≡ 0 → {k : ℕ} {st′ : State} {image′ : List ℕ} → k ≡ cut-kept image st log table → st′ ≡ emptied st → image′ ≡ cut-image image st log table
       → Cuts image st log table (Kept k) st′ image′
-  cuts-done none {k} kept s i =
+  cuts-done none kept s i =
       record {
-        answers = ap (λ (n : ℕ). record { number = 0; values = n ∷ [] }) kept ∙ ap (λ (n : ℕ). record { number = n; values = if-done n (cut-kept image st log table ∷ []) [] }) (sym none);
-        state-after = s ∙ done-changed (emptied st) st none;
-        image-after = i ∙ done-changed (cut-image image st log table) image none;
+        answers = kept-told kept none;
+        state-after = s ∙ done-changed _ none;
+        image-after = i ∙ done-changed _ none;
       }
 
   pub cuts-refused : (why : Refusal) → cut-number image st log table ≡ refusal-number why → Cuts image st log table (Refused why) st image
   cuts-refused why e =
       record {
-        answers = ap (λ (vs : List ℕ). record { number = refusal-number why; values = vs }) (refused-left {n = refusal-number why} why (cut-kept image st log table ∷ []) [] refl)
-            ∙ ap (λ (n : ℕ). record { number = n; values = if-done n (cut-kept image st log table ∷ []) [] }) (sym e);
-        state-after = refused-left why (emptied st) st e;
-        image-after = refused-left why (cut-image image st log table) image e;
+        answers = refused-told why (cut-kept image st log table) e;
+        state-after = refused-left why _ e;
+        image-after = refused-left why _ e;
       }

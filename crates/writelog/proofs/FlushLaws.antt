@@ -26,9 +26,9 @@ module _ (image : List ℕ) (st : State) (log : List ℕ) where
       → Flushes image st log Done st′ image′
   flushes-done e s i =
       let none = flush-sound e in
-      record { answers = sym none; state-after = s ∙ done-changed (emptied st) st none; image-after = i ∙ done-changed (readable (view image st log)) image none }
+      record { answers = sym none; state-after = s ∙ done-changed _ none; image-after = i ∙ done-changed _ none }
 
   pub flushes-refused : sound (length image) st (length log) ≡ false → Flushes image st log (Refused BadState) st image
   flushes-refused e =
       let one = flush-unsound e in
-      record { answers = sym one; state-after = refused-left BadState (emptied st) st one; image-after = refused-left BadState (readable (view image st log)) image one }
+      record { answers = sym one; state-after = refused-left BadState _ one; image-after = refused-left BadState _ one }

@@ -5,11 +5,11 @@ use mathlib.Core.Bool.{Bool, true, false, _&&_, and-false}
 use lib.Dec.{leb, eqb}
 use borrow.Author.Tests.{eq-eqb, ne-eqb, eqb-true, leb-true}
 use Rattle.region.specs.Answer.{unless}
+use Rattle.region.proofs.AnswerLaws.{passed}
 use Rattle.region.proofs.Booleans.{cond-when, cond-unless, and-unless, both, both-true}
 use Rattle.records.specs.State.{sound}
 use Rattle.writelog.specs.Read.{asked-number}
 use Rattle.records.specs.declared.state.State.{State}
-use Rattle.writelog.proofs.WriteLaws.{passed}
 
 module _ (L : ℕ) (st : State) (log-length work-length addr len : ℕ) where
   abbrev fit : Bool
@@ -45,7 +45,7 @@ module _ (L : ℕ) (st : State) (log-length work-length addr len : ℕ) where
   pub asked-done : asked-number L st log-length work-length addr len ≡ 0 → Asked
   unfolding asked-number
   asked-done e =
-      let a = passed fit 0 past e in
-      let b = passed (leb (addr + len) L) 1 0 (a .1) in
+      let a = passed _ e in
+      let b = passed _ (a .1) in
       let f = both (sound L st log-length) (eqb work-length L) (a .0) in
       record { good = f .0; whole = eqb-true work-length L (f .1); lies = leb-true (addr + len) L (b .0) }

@@ -1,8 +1,7 @@
 -- Which of a write's tests gives its number, and what number 0 tells. Assumes nothing.
-use Prim.Native.Nat.{ℕ, suc, _+_, _≤_, _<_}
-use native.Mathlib.Nat.{suc-ne-zero}
-use mathlib.Core.Path.{_≡_, refl, sym, ap, _∙_}
-use mathlib.Core.Bool.{Bool, true, false}
+use Prim.Native.Nat.{ℕ, _+_, _≤_, _<_}
+use mathlib.Core.Path.{_≡_, sym, ap, _∙_}
+use mathlib.Core.Bool.{true, false}
 use mathlib.Core.List.{List}
 use lib.Dec.{leb, ltb}
 use lib.ListN.{length}
@@ -13,17 +12,12 @@ use Rattle.region.specs.Pmemspec.{update-bytes}
 use Rattle.region.specs.declared.Refusal.{Refusal}
 use Rattle.region.specs.declared.Answer.{Answer}
 use Rattle.region.specs.declared.Answer.the-variants.{Done, Refused}
-use Rattle.region.proofs.AnswerLaws.{done-changed, refused-left}
+use Rattle.region.proofs.AnswerLaws.{done-changed, refused-left, passed}
 use Rattle.region.proofs.Booleans.{cond-when, cond-unless}
 use Rattle.records.specs.State.{log-records, together, sound, appended}
 use Rattle.records.proofs.Soundness.{Room}
 use Rattle.writelog.specs.Write.{room-number, write-number, Writes}
 use Rattle.records.specs.declared.state.State.{State}
-
--- a test that was passed, where its refusal has a number above 0
-pub passed : (good : Bool) (why rest : ℕ) → unless good (suc why) rest ≡ 0 → (good ≡ true) × (rest ≡ 0)
-passed true why rest e = (refl, e)
-passed false why rest e = absurd (suc-ne-zero why e)
 
 module _ (L : ℕ) (st : State) (addr n : ℕ) where
   abbrev many : ℕ
@@ -51,9 +45,9 @@ module _ (L : ℕ) (st : State) (addr n : ℕ) where
 
   pub room-done : room-number L st addr n ≡ 0 → Room L st addr n
   room-done e =
-      let a = passed (leb (addr + n) L) 1 full e in
-      let b = passed (ltb (st .count) writes-limit) 2 many (a .1) in
-      let c = passed (leb (together (log-records st) + n) log-limit) 3 0 (b .1) in
+      let a = passed _ e in
+      let b = passed _ (a .1) in
+      let c = passed _ (b .1) in
       record { lies = leb-true (addr + n) L (a .0); few = ltb-true (st .count) writes-limit (b .0); fits = leb-true (together (log-records st) + n) log-limit (c .0) }
 
 module _ (image : List ℕ) (st : State) (log : List ℕ) (addr n : ℕ) where
@@ -73,8 +67,8 @@ module _ (image : List ℕ) (st : State) (log : List ℕ) (addr : ℕ) (bytes : 
       let none : write-number image st log addr (length bytes) ≡ 0 = sym number ∙ ap answer-number e in
       record {
         answers = number;
-        state-after = s ∙ done-changed (appended st addr (length bytes)) st none;
-        log-after = l ∙ done-changed (update-bytes log (together (log-records st)) bytes) log none;
+        state-after = s ∙ done-changed _ none;
+        log-after = l ∙ done-changed _ none;
       }
 
   pub writes-refused : (why : Refusal) → answer ≡ Refused why → Writes image st log addr bytes answer st log
@@ -82,6 +76,6 @@ module _ (image : List ℕ) (st : State) (log : List ℕ) (addr : ℕ) (bytes : 
       let some : write-number image st log addr (length bytes) ≡ refusal-number why = sym number ∙ ap answer-number e in
       record {
         answers = number;
-        state-after = refused-left why (appended st addr (length bytes)) st some;
-        log-after = refused-left why (update-bytes log (together (log-records st)) bytes) log some;
+        state-after = refused-left why _ some;
+        log-after = refused-left why _ some;
       }

@@ -5,8 +5,9 @@ use native.Mathlib.Omega.{arith}
 use mathlib.Core.Path.{_≡_, sym, ap, _∙_}
 use lib.ListN.{length}
 use borrow.Author.Needs.{needs}
-use Rattle.replay.specs.Rows.{row-bytes}
+use Rattle.region.specs.Limits.{const-persistence-chunk-size}
 use Rattle.replay.specs.AsyncSpec.{size-to-chunks}
+use Rattle.replay.specs.Rows.{row-bytes}
 use Rattle.replay.proofs.Laid.{update-whole}
 use Rattle.tape.proofs.ending.ended.Statement.{statement}
 use Rattle.tape.proofs.ending.ended.Tie as tie
@@ -18,28 +19,34 @@ predicted-at c = c .before .before .before .before .before .before .before .befo
 abbrev start : tie.After-struct-known → tie.Start
 start c = predicted-at c .before .before .before .before .before .before .before
 
--- the width of a row of the image
-width-is : (c : tie.After-struct-known) → c .before .row-bytes .result ≡ row-bytes (size-to-chunks 8 (length (start c .args .image .now)))
-width-is c = c .before .row-bytes .ensures ∙ ap row-bytes (c .before .before .size-to-chunks .ensures ∙ ap (size-to-chunks 8) (c .before .before .before .before .before .lay .kept .0))
+-- the image's length, and the width of its rows
+abbrev L : tie.After-struct-known → ℕ
+L c = length (start c .args .image .now)
+
+width-is : (c : tie.After-struct-known) → c .before .row-bytes .result ≡ row-bytes (size-to-chunks const-persistence-chunk-size (L c))
+width-is c =
+    let same = c .before .before .before .before .before .lay .kept .0 in
+    c .before .row-bytes .ensures ∙ ap row-bytes (c .before .before .size-to-chunks .ensures ∙ ap (size-to-chunks const-persistence-chunk-size) same)
+
+rows-are : (c : tie.After-struct-known) → let n = start c .args .state .count in
+    n * c .before .row-bytes .result ≡ n * row-bytes (size-to-chunks const-persistence-chunk-size (L c))
+rows-are c = ap (λ (w : ℕ). start c .args .state .count * w) (width-is c)
 
 mul-result : tie.Need-mul-result
-mul-result c =
-    let entry = start c in
-    omega (arith, entry .pre .rows, ap (λ (w : ℕ). entry .args .state .count * w) (width-is c))
+mul-result c = omega (arith, start c .pre .rows, rows-are c)
 
 add-result-2 : tie.Need-add-result-2
-add-result-2 c =
-    let entry = start c in
-    omega (arith, entry .pre .rows, ap (λ (w : ℕ). entry .args .state .count * w) (width-is c))
+add-result-2 c = omega (arith, start c .pre .rows, rows-are c)
 
 returns : tie.Need-returns
 returns c =
-    let lay = c .before .before .before .before .before in
-    let predict = predicted-at c in
-    let a = start c .args in (
-      ap (λ (w : ℕ). a .start + 1 + a .state .count * w) (width-is c),
-      lay .lay .ensures ∙ update-whole (a .image .now) (predict .predict .last .1 .1 .1 .1 .1 .0) (sym (predict .predict .kept .1 .1 .1 .1 .1 .0 ∙ start c .pre .sized)) ∙ predict .predict .ensures,
-      predict .predict .ensures,
+    let laid = c .before .before .before .before .before .lay in
+    let predicted = predicted-at c .predict in
+    let entry = start c in
+    let sized = predicted .kept .1 .1 .1 .1 .1 .0 ∙ entry .pre .sized in (
+      ap (λ (k : ℕ). entry .args .start + 1 + k) (rows-are c),
+      laid .ensures ∙ update-whole (entry .args .image .now) _ (sym sized) ∙ predicted .ensures,
+      predicted .ensures,
     )
 
 pub ended-spec : {M : Type 1} → statement M

@@ -5,6 +5,7 @@ use mathlib.Core.Bool.{Bool, true, Bool·beq}
 use borrow.Author.Tests.{not-true, not-false}
 use borrow.Author.Needs.{needs}
 use Rattle.region.specs.Answer.{answer-number}
+use Rattle.region.specs.Limits.{const-persistence-chunk-size}
 use Rattle.replay.specs.AsyncSpec.{size-to-chunks}
 use Rattle.records.proofs.Soundness.{Told, told-bytes, told-unsound}
 use Rattle.tape.specs.Write.{tape-sound}
@@ -20,34 +21,37 @@ abbrev start : tie.After-enum-told → tie.Start
 start c = c .before .before .before .before
 
 -- what the test of the state told
-told-here : (c : tie.After-enum-told) → Told (start c .args .size) (start c .args .state) (start c .args .log) (c .enum-told .given .0 .0)
+told-here : (c : tie.After-enum-told) → let a = start c .args in Told (a .size) (a .state) (a .log) (c .enum-told .given .0 .0)
 told-here c = told-bytes _ (start c .args .state) _ (c .before .before .checked .ensures .0) (c .enum-told .given .1)
 
 -- past the two tests refusal 1 is out
-sound-here : (c : tie.Else1) → tape-sound (start (c .before) .args .size) (start (c .before) .args .state) (start (c .before) .args .log) (start (c .before) .args .predicted) ≡ true
-sound-here c =
-    let a = start (c .before) .args in
-    tape-sound-there (a .size) (a .state) (a .log) (a .predicted) (told-here (c .before) .good) (c .if1 .left)
-
--- what the header foretells
-told-is : (c : tie.After-flush-foretold) → as-foretold (start (c .before .before .before .before .before) .args .flushing) (start (c .before .before .before .before .before) .args .tape .now) (start (c .before .before .before .before .before) .args .start) ≡ Bool·beq (c .flush-foretold .result) (start (c .before .before .before .before .before) .args .flushing)
-told-is c = ap (λ (t : Bool). Bool·beq t (start (c .before .before .before .before .before) .args .flushing)) (sym (c .flush-foretold .ensures))
+sound-here : (c : tie.Else1) → let a = start (c .before) .args in tape-sound (a .size) (a .state) (a .log) (a .predicted) ≡ true
+sound-here c = tape-sound-there _ (start (c .before) .args .state) _ _ (told-here (c .before) .good) (c .if1 .left)
 
 -- and past the epoch's, 10 and 9
-epoch-none : (c : tie.After-enum-told3) → epoch-number (size-to-chunks 8 (start (c .before .before .before .before) .args .size)) (start (c .before .before .before .before) .args .state .count) (start (c .before .before .before .before) .args .tape .now) (start (c .before .before .before .before) .args .start) ≡ 0
+abbrev tested : tie.After-enum-told3 → tie.Else1
+tested c = c .before .before .before
+
+epoch-none : (c : tie.After-enum-told3) → let a = start (tested c .before) .args in
+    epoch-number (size-to-chunks const-persistence-chunk-size (a .size)) (a .state .count) (a .tape .now) (a .start) ≡ 0
 epoch-none c = sym (c .before .before .epoch .ensures) ∙ ap answer-number (c .enum-told3 .given .1)
+
+-- what the header foretells
+told-is : (c : tie.After-flush-foretold) → let a = start (tested (c .before) .before) .args in
+    as-foretold (a .flushing) (a .tape .now) (a .start) ≡ Bool·beq (c .flush-foretold .result) (a .flushing)
+told-is c = ap (λ (t : Bool). Bool·beq t (start (tested (c .before) .before) .args .flushing)) (sym (c .flush-foretold .ensures))
 
 returns : tie.Need-returns
 returns c =
     let checked = c .before .before in
-    let a = checked .before .before .args in
-    (sym (ending-unsound (a .size) (a .state) (a .log) (a .predicted) (a .flushing) (a .tape .now) (a .start) (unsound (a .size) (a .state) (a .log) (a .predicted) (told-unsound (a .size) (a .state) (a .log) (checked .checked .ensures .0) (c .enum-told2 .given .1)))), checked .checked .ensures .1)
+    let st = checked .before .before .args .state in
+    let bad = told-unsound _ st _ (checked .checked .ensures .0) (c .enum-told2 .given .1) in
+    (sym (ending-unsound _ _ _ _ _ _ _ (unsound _ st _ _ bad)), checked .checked .ensures .1)
 
 returns-2 : tie.Need-returns-2
 returns-2 c =
-    let checked = c .before .before .before in
-    let a = checked .before .before .args in
-    (sym (ending-unsound (a .size) (a .state) (a .log) (a .predicted) (a .flushing) (a .tape .now) (a .start) (missized (a .size) (a .state) (a .log) (a .predicted) (told-here (c .before) .good) (c .if1 .taken))), checked .checked .ensures .1)
+    let bad = missized _ (start (c .before) .args .state) _ _ (told-here (c .before) .good) (c .if1 .taken) in
+    (sym (ending-unsound _ _ _ _ _ _ _ bad), c .before .before .before .checked .ensures .1)
 
 epoch-requires : tie.Need-epoch-requires
 epoch-requires c κs =
@@ -55,35 +59,31 @@ epoch-requires c κs =
     (told .facts .few, told .facts .short)
 
 flush-foretold-requires : tie.Need-flush-foretold-requires
-flush-foretold-requires c κs =
-    let a = c .before .before .before .before .before .before .before .before .args in
-    epoch-facts (size-to-chunks 8 (a .size)) (a .state .count) (a .tape .now) (a .start) (epoch-none c) .there .begins
+flush-foretold-requires c κs = epoch-facts (epoch-none c) .there .begins
 
 returns-3 : tie.Need-returns-3
 returns-3 c =
     let told3 = c .before .before in
-    let else1 = told3 .before .before .before in
-    let checked = else1 .before .before .before in
-    let a = checked .before .before .args in
-    (sym (ending-not-foretold (a .size) (a .state) (a .log) (a .predicted) (a .flushing) (a .tape .now) (a .start) (sound-here else1) (epoch-none told3) (told-is (c .before) ∙ not-true _ (c .if2 .taken))), checked .checked .ensures .1)
+    let else1 = tested told3 in
+    let foretold = told-is (c .before) ∙ not-true _ (c .if2 .taken) in
+    (sym (ending-not-foretold _ _ _ _ _ _ _ (sound-here else1) (epoch-none told3) foretold), else1 .before .before .before .checked .ensures .1)
 
 returns-4 : tie.Need-returns-4
 returns-4 c =
     let told3 = c .before .before in
-    let else1 = told3 .before .before .before in
-    let checked = else1 .before .before .before in
-    let a = checked .before .before .args in
-    (sym (ending-foretold (a .size) (a .state) (a .log) (a .predicted) (a .flushing) (a .tape .now) (a .start) (sound-here else1) (epoch-none told3) (told-is (c .before) ∙ not-false _ (c .if2 .left))), checked .checked .ensures .1)
+    let else1 = tested told3 in
+    let foretold = told-is (c .before) ∙ not-false _ (c .if2 .left) in
+    (sym (ending-foretold _ _ _ _ _ _ _ (sound-here else1) (epoch-none told3) foretold), else1 .before .before .before .checked .ensures .1)
 
 returns-5 : tie.Need-returns-5
 returns-5 c =
     let epoch = c .before .before in
     let else1 = epoch .before in
-    let checked = else1 .before .before .before in
-    let a = checked .before .before .args in
-    let why = c .enum-told4 .given .0 .0 in
-    let number = ap answer-number (c .enum-told4 .given .1) in
-    (number ∙ sym (ending-bad-epoch (a .size) (a .state) (a .log) (a .predicted) (a .flushing) (a .tape .now) (a .start) (sound-here else1) why (sym (epoch .epoch .ensures) ∙ number)), checked .checked .ensures .1)
+    let why = c .enum-told4 .given in
+    let number = ap answer-number (why .1) in (
+      number ∙ sym (ending-bad-epoch _ _ _ _ _ _ _ (sound-here else1) (why .0 .0) (sym (epoch .epoch .ensures) ∙ number)),
+      else1 .before .before .before .checked .ensures .1,
+    )
 
 pub ending-spec : {M : Type 1} → statement M
 ending-spec =

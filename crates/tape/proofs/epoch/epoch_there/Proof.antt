@@ -26,20 +26,26 @@ returns c =
 
 returns-2 : tie.Need-returns-2
 returns-2 c =
-    let a = c .before .before .before .before .before .args in
-    sym (no-header (a .chunks) (a .n) (a .tape .now) (a .start) (other-header (a .tape .now) (a .start) (c .before .before .before .if1 .left) (c .before .if2 .taken) (c .if3 .taken)))
+    let begins = c .before .before .before in
+    let a = begins .before .before .args in
+    sym (no-header (a .chunks) (a .n) (a .tape .now) (a .start)
+    (other-header (a .tape .now) (a .start) (begins .if1 .left) (c .before .if2 .taken) (c .if3 .taken)))
 
 -- past the two tests the header is one of the two
-headed : (c : tie.Joined2) → header-right (start c .args .tape .now) (start c .args .start) ≡ true
+headed : (c : tie.Joined2) → let a = start c .args in header-right (a .tape .now) (a .start) ≡ true
 headed c =
     let a = start c .args in
     let begins = c .before .before .if1 .left in
-    ⊎-elim (λ w. cut-header-right (a .tape .now) (a .start) begins (w .1 .left)) (λ w. flush-header-right (a .tape .now) (a .start) begins (w .left)) (c .if2 .came)
+    ⊎-elim
+    (λ w. cut-header-right (a .tape .now) (a .start) begins (w .1 .left))
+    (λ w. flush-header-right (a .tape .now) (a .start) begins (w .left))
+    (c .if2 .came)
 
 mul-result : tie.Need-mul-result
 mul-result c =
+    let entry = start (c .before) in
     let few : c .row-bytes .result ≤ image-limit = omega (arith, c .row-bytes .ensures) in
-    let all : c .before .before .before .before .before .args .n * c .row-bytes .result ≤ writes-limit * image-limit = mul-le-mul (c .before .before .before .before .before .pre .0) few in
+    let all : entry .args .n * c .row-bytes .result ≤ writes-limit * image-limit = mul-le-mul (entry .pre .0) few in
     omega arith
 
 returns-3 : tie.Need-returns-3
@@ -47,7 +53,8 @@ returns-3 c =
     let known = c .before .before in
     let a = known .before .before .before .args in
     ap (λ (w : ℕ). ltb (a .n * w) (length (a .tape .now) - a .start)) (c .row-bytes .ensures)
-    ∙ fits-behind _ (a .start) (length (a .tape .now)) (known .before .if1 .left) ∙ sym (with-header (a .chunks) (a .n) (a .tape .now) (a .start) (headed (c .before)))
+    ∙ fits-behind _ (a .start) (length (a .tape .now)) (known .before .if1 .left)
+    ∙ sym (with-header (a .chunks) (a .n) (a .tape .now) (a .start) (headed (c .before)))
 
 pub epoch-there-spec : {M : Type 1} → statement M
 epoch-there-spec =

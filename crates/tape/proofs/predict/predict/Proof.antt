@@ -5,15 +5,16 @@ use native.Mathlib.Omega.{arith}
 use mathlib.Core.Path.{_≡_, sym, ap, subst⁻¹, _∙_}
 use lib.ListN.{length}
 use borrow.Author.Needs.{needs}
-use Rattle.replay.specs.Rows.{row-bytes}
+use Rattle.region.specs.Limits.{const-persistence-chunk-size}
 use Rattle.replay.specs.AsyncSpec.{size-to-chunks}
-use Rattle.records.specs.Log.{Remaining}
+use Rattle.replay.specs.Rows.{row-bytes}
 use Rattle.replay.proofs.Laid.{update-whole}
+use Rattle.records.specs.Log.{Remaining}
 use Rattle.tape.proofs.PredictLaws.{replayed-whole, replayed-selected}
 use Rattle.tape.proofs.predict.predict.Statement.{statement}
 use Rattle.tape.proofs.predict.predict.Tie as tie
 
--- the function's entry, from where the image was update-whole
+-- the function's entry, from where the image was copied
 abbrev start : tie.After-lay → tie.Start
 start c = c .before .before .before .before .before .before
 
@@ -23,35 +24,45 @@ copy-here c =
     let entry = start c in
     c .lay .ensures ∙ update-whole (entry .args .predicted .now) (entry .args .image .now) (entry .pre .sized)
 
+length-here : (c : tie.After-lay) → length (c .lay .last .0) ≡ length (start c .args .image .now)
+length-here c = ap length (copy-here c)
+
 replay-whole-requires : tie.Need-replay-whole-requires
 replay-whole-requires c κs =
     let lay = c .before .before .before .before .before in
-    let entry = start lay in
-    subst⁻¹ (λ (n : ℕ). Remaining n (entry .args .state) (length (entry .args .log .now)) 0 (entry .args .state .count)) (lay .lay .kept .0 ∙ entry .pre .sized) (entry .pre .walk)
+    let a = start lay .args in
+    subst⁻¹ (λ (n : ℕ). Remaining n (a .state) (length (a .log .now)) 0 (a .state .count)) (length-here lay) (start lay .pre .walk)
 
 returns : tie.Need-returns
 returns c =
     let then1 = c .before .before .before .before in
     let lay = then1 .before .before .before .before in
     let a = start lay .args in
-    c .before .before .replay-whole .ensures ∙ replayed-whole (a .image .now) (a .state) (a .log .now) (a .tape .now) (a .start) (copy-here lay) (sym (then1 .before .flush-foretold .ensures) ∙ then1 .if1 .taken)
+    c .before .before .replay-whole .ensures
+    ∙ replayed-whole _ (a .state) _ (a .tape .now) (a .start) (copy-here lay) (sym (then1 .before .flush-foretold .ensures) ∙ then1 .if1 .taken)
 
 replay-selected-requires : tie.Need-replay-selected-requires
 replay-selected-requires c κs =
     let lay = c .before .before .before .before .before .before .before in
     let entry = start lay in
     let a = entry .args in
+    let w = c .before .row-bytes .result in
     let width = c .before .row-bytes .ensures ∙ ap row-bytes (c .before .before .size-to-chunks .ensures) in
-    subst⁻¹ (λ (n : ℕ). Remaining n (a .state) (length (a .log .now)) 0 (a .state .count) × ((c .before .row-bytes .result ≡ row-bytes (size-to-chunks 8 n)) × (a .start + 1 + a .state .count * c .before .row-bytes .result ≤ length (a .tape .now)))) (lay .lay .kept .0 ∙ entry .pre .sized)
-    (entry .pre .walk, (width, omega (arith, entry .pre .rows, ap (λ (w : ℕ). a .state .count * w) width)))
+    let rows : a .start + 1 + a .state .count * w ≤ length (a .tape .now)
+    = omega (arith, entry .pre .rows, ap (λ (w : ℕ). a .state .count * w) width) in
+    subst⁻¹ (λ (n : ℕ). Remaining n (a .state) (length (a .log .now)) 0 (a .state .count)
+    × ((w ≡ row-bytes (size-to-chunks const-persistence-chunk-size n)) × (a .start + 1 + a .state .count * w ≤ length (a .tape .now))))
+    (length-here lay) (entry .pre .walk, (width, rows))
 
 returns-2 : tie.Need-returns-2
 returns-2 c =
     let else1 = c .before .before .before .before .before .before in
     let lay = else1 .before .before .before .before in
-    let entry = start lay in
-    let a = entry .args in
-    c .before .before .replay-selected .ensures ∙ replayed-selected (a .image .now) (a .state) (a .log .now) (a .tape .now) (a .start) (copy-here lay) (omega (arith, entry .pre .walk .few, entry .pre .walk .sized)) (sym (else1 .before .flush-foretold .ensures) ∙ else1 .if1 .left)
+    let a = start lay .args in
+    let walk = start lay .pre .walk in
+    c .before .before .replay-selected .ensures
+    ∙ replayed-selected _ (a .state) _ (a .tape .now) (a .start) (copy-here lay) (omega (arith, walk .few, walk .sized))
+    (sym (else1 .before .flush-foretold .ensures) ∙ else1 .if1 .left)
 
 pub predict-spec : {M : Type 1} → statement M
 predict-spec =

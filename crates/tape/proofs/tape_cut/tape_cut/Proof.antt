@@ -2,22 +2,22 @@
 -- Assumes nothing.
 use Prim.Native.Nat.{ℕ, _+_, _-_}
 use native.Mathlib.Omega.{arith}
-use mathlib.Core.List.{List}
-use mathlib.Core.Bool.{false}
 use mathlib.Core.Path.{_≡_, sym, ap, _∙_}
-use lib.Seq.{take-all}
+use mathlib.Core.Bool.{false}
+use mathlib.Core.List.{List}
 use lib.ListN.{length, take, drop, length-drop}
+use lib.Seq.{take-all}
 use borrow.Author.Needs.{needs}
 use Rattle.region.specs.Answer.{answer-number}
+use Rattle.region.specs.Limits.{const-persistence-chunk-size}
 use Rattle.replay.specs.Rows.{rows-at}
-use Rattle.replay.specs.AsyncSpec.{size-to-chunks}
-use Rattle.records.proofs.KeptLaws.{kept-by-records}
 use Rattle.records.specs.Log.{kept-records}
 use Rattle.records.specs.State.{log-records}
-use Rattle.tape.specs.Epoch.{epoch-rows}
+use Rattle.records.proofs.KeptLaws.{kept-by-records}
+use Rattle.writelog.specs.Cut.{chunks}
 use Rattle.tape.specs.Cut.{tape-cut-number}
-use Rattle.tape.proofs.PromiseLaws.{tape-cuts-done, tape-cuts-refused}
 use Rattle.tape.proofs.NumberLaws.{Ending, ending-done, predictable-now}
+use Rattle.tape.proofs.PromiseLaws.{tape-cuts-done, tape-cuts-refused}
 use Rattle.tape.proofs.RowsLaws.{rows-of-part}
 use Rattle.tape.proofs.tape_cut.tape_cut.Statement.{statement}
 use Rattle.tape.proofs.tape_cut.tape_cut.Tie as tie
@@ -27,46 +27,48 @@ abbrev start : tie.After-enum-told → tie.Start
 start c = c .before .before .before .before .before .before .before
 
 -- the epoch may end by a cut, where its test says so
-cut-none : (c : tie.After-enum-told) → tape-cut-number (start c .args .image .now) (start c .args .state) (start c .args .log .now) (start c .args .tape .now) (start c .args .start) (start c .args .predicted .now) ≡ 0
+cut-none : (c : tie.After-enum-told) → let a = start c .args in
+    tape-cut-number (a .image .now) (a .state) (a .log .now) (a .tape .now) (a .start) (a .predicted .now) ≡ 0
 cut-none c = sym (c .before .before .ending .ensures .0) ∙ ap answer-number (c .enum-told .given .1)
 
-ending-here : (c : tie.After-enum-told) → Ending (length (start c .args .image .now)) (start c .args .state) (length (start c .args .log .now)) (length (start c .args .predicted .now)) false (start c .args .tape .now) (start c .args .start)
-ending-here c =
-    let a = start c .args in
-    ending-done (length (a .image .now)) (a .state) (length (a .log .now)) (length (a .predicted .now)) false (a .tape .now) (a .start) (cut-none c)
+ending-here : (c : tie.After-enum-told) → let a = start c .args in
+    Ending (length (a .image .now)) (a .state) (length (a .log .now)) (length (a .predicted .now)) false (a .tape .now) (a .start)
+ending-here c = ending-done (cut-none c)
 
 -- the part of the tape from a place on
 part-is : (tape : List ℕ) (at : ℕ) → take (length tape - at) (drop at tape) ≡ drop at tape
 part-is tape at = take-all (length tape - at) (drop at tape) (omega (arith, length-drop at tape))
 
 add-rows : tie.Need-add-rows
-add-rows c =
-    let e = ending-here c in
-    omega (arith, e .epoch .there .begins)
+add-rows c = omega (arith, ending-here c .epoch .there .begins)
 
 sub-kept : tie.Need-sub-kept
-sub-kept c =
-    let e = ending-here c in
-    omega (arith, e .epoch .there .begins)
+sub-kept c = omega (arith, ending-here c .epoch .there .begins)
 
 part-kept-start : tie.Need-part-kept-start
-part-kept-start c =
-    let e = ending-here c in
-    omega (arith, e .epoch .there .begins)
+part-kept-start c = omega (arith, ending-here c .epoch .there .begins)
 
 kept-requires : tie.Need-kept-requires
 kept-requires c κs =
     let told = c .before in
-    let a = start told .args in
+    let tape = start told .args .tape .now in
+    let rows = start told .args .start + 1 in
     let e = ending-here told in
-    record { sized = told .before .before .ending .ensures .1; short = e .facts .short; few = e .facts .few; inside = e .facts .inside; room = e .facts .room; right = omega (arith, e .epoch .there .fits, ap length (part-is (a .tape .now) (a .start + 1)), length-drop (a .start + 1) (a .tape .now)) }
+    record {
+      sized = told .before .before .ending .ensures .1;
+      short = e .facts .short;
+      few = e .facts .few;
+      inside = e .facts .inside;
+      room = e .facts .room;
+      right = omega (arith, e .epoch .there .fits, ap length (part-is tape rows), length-drop rows tape);
+    }
 
 ended-requires : tie.Need-ended-requires
 ended-requires c κs =
     let told = c .before .before .before .before in
-    let a = start told .args in
-    predictable-now (length (a .image .now)) (a .state) (length (a .log .now)) (length (a .predicted .now)) false (a .tape .now) (a .start) (told .before .before .ending .ensures .1) (ending-here told)
+    predictable-now (told .before .before .ending .ensures .1) (ending-here told)
 
+-- the pieces are counted in the part of the tape behind the header
 returns : tie.Need-returns
 returns c =
     let ended = c .before .before .before .before .before in
@@ -74,19 +76,19 @@ returns c =
     let told = kept .before .before in
     let a = start told .args in
     let facts = ending-here told .facts in
-    let K = size-to-chunks 8 (length (a .image .now)) in
-    tape-cuts-done (a .image .now) (a .state) (a .log .now) (a .tape .now) (a .start) (a .predicted .now) (cut-none told)
+    let K = chunks (a .image .now) in
+    let pieces = kept-records const-persistence-chunk-size (log-records (a .state)) in
+    tape-cuts-done (cut-none told)
     (kept .kept .ensures
-    ∙ ap (λ (t : List ℕ). kept-records 8 (log-records (a .state)) (rows-at K (a .state .count) t 0)) (part-is (a .tape .now) (a .start + 1))
-    ∙ ap (kept-records 8 (log-records (a .state))) (rows-of-part K (a .tape .now) (a .start + 1) (a .state .count))
-    ∙ sym (kept-by-records 8 (log-records (a .state)) (a .log .now) (epoch-rows K (a .state .count) (a .tape .now) (a .start)) (omega (arith, facts .room, facts .buffer))))
+    ∙ ap (λ (t : List ℕ). pieces (rows-at K (a .state .count) t 0)) (part-is (a .tape .now) (a .start + 1))
+    ∙ ap pieces (rows-of-part K (a .tape .now) (a .start + 1) (a .state .count))
+    ∙ sym (kept-by-records _ (log-records (a .state)) (a .log .now) _ (omega (arith, facts .room, facts .buffer))))
     (c .emptied .ensures) (ended .ended .ensures .0) (ended .ended .ensures .1) (ended .ended .ensures .2)
 
 returns-2 : tie.Need-returns-2
 returns-2 c =
-    let ending = c .before .before .before in
-    let a = ending .before .before .before .before .before .args in
-    tape-cuts-refused (a .image .now) (a .state) (a .log .now) (a .tape .now) (a .start) (a .predicted .now) (c .before .answer .given .0 .0) (sym (ending .ending .ensures .0) ∙ ap answer-number (c .before .answer .given .1))
+    let why = c .before .answer .given in
+    tape-cuts-refused (why .0 .0) (sym (c .before .before .before .ending .ensures .0) ∙ ap answer-number (why .1))
 
 pub tape-cut-spec : {M : Type 1} → statement M
 tape-cut-spec =

@@ -2,63 +2,64 @@
 -- with it in the log. Assumes nothing.
 use Prim.Native.Nat.{ℕ}
 use native.Mathlib.Omega.{arith}
-use mathlib.Core.List.{List}
-use mathlib.Core.Bool.{true}
 use mathlib.Core.Path.{_≡_, refl, sym, ap, ap₂, subst⁻¹, _∙_}
+use mathlib.Core.Bool.{true}
+use mathlib.Core.List.{List}
 use lib.ListN.{length}
 use borrow.Author.Needs.{needs}
-use Rattle.region.specs.declared.Refusal.the-variants.{BadState}
-use Rattle.region.specs.Pmemspec.{update-bytes}
 use Rattle.region.specs.Answer.{answer-number}
-use Rattle.records.proofs.Soundness.{Told, told-bytes, told-unsound}
-use Rattle.records.specs.declared.state.State.{State}
+use Rattle.region.specs.Pmemspec.{update-bytes}
+use Rattle.region.specs.declared.Refusal.the-variants.{BadState}
 use Rattle.records.specs.State.{appended}
+use Rattle.records.specs.declared.state.State.{State}
+use Rattle.records.proofs.Soundness.{Told, told-bytes, told-unsound}
 use Rattle.tape.specs.Write.{tape-sound, tape-write-number}
 use Rattle.tape.specs.Predictable.{Predictable}
 use Rattle.tape.specs.Ending.{predicted-now}
-use Rattle.tape.proofs.PromiseLaws.{tape-writes-done, tape-writes-refused}
 use Rattle.tape.proofs.NumberLaws.{unsound, missized, tape-sound-there, TapeRoom, tape-room-done, predictable-with, tape-write-unsound, tape-write-sound}
+use Rattle.tape.proofs.PromiseLaws.{tape-writes-done, tape-writes-refused}
 use Rattle.tape.proofs.tape_write.tape_write.Statement.{statement}
 use Rattle.tape.proofs.tape_write.tape_write.Tie as tie
 
--- the function's entry, from where the test of the state was passed
+-- the places: the function's entry, from where the test of the state was passed, and the two tests before there was room
 abbrev start : tie.After-known-told → tie.Start
 start c = c .before .before .before .before .before .before .before .before .before
 
+abbrev tested : tie.After-enum-told2 → tie.Else1
+tested c = c .before .before .before
+
 -- what the test of the state told
-told-here : (c : tie.After-known-told) → Told (length (start c .args .image .now)) (start c .args .state) (length (start c .args .log .now)) (c .before .used .given .0 .0)
+told-here : (c : tie.After-known-told) → let a = start c .args in
+    Told (length (a .image .now)) (a .state) (length (a .log .now)) (c .before .used .given .0 .0)
 told-here c = told-bytes _ (start c .args .state) _ (c .before .before .before .checked .ensures .0) (c .before .used .given .1)
 
 -- past the two tests refusal 1 is out
-sound-here : (c : tie.Else1) → tape-sound (length (start (c .before) .args .image .now)) (start (c .before) .args .state) (length (start (c .before) .args .log .now)) (length (start (c .before) .args .predicted .now)) ≡ true
-sound-here c =
-    let a = start (c .before) .args in
-    tape-sound-there (length (a .image .now)) (a .state) (length (a .log .now)) (length (a .predicted .now)) (told-here (c .before) .good) (c .if1 .left)
+sound-here : (c : tie.Else1) → let a = start (c .before) .args in
+    tape-sound (length (a .image .now)) (a .state) (length (a .log .now)) (length (a .predicted .now)) ≡ true
+sound-here c = tape-sound-there _ (start (c .before) .args .state) _ _ (told-here (c .before) .good) (c .if1 .left)
 
 -- so the answer's number is the tape's room
-number-here : (c : tie.After-tape-room) → answer-number (c .tape-room .result) ≡ tape-write-number (start (c .before .before) .args .image .now) (start (c .before .before) .args .state) (start (c .before .before) .args .log .now) (start (c .before .before) .args .tape .now) (start (c .before .before) .args .start) (start (c .before .before) .args .predicted .now) (start (c .before .before) .args .addr) (length (start (c .before .before) .args .bytes .now))
-number-here c =
-    let a = start (c .before .before) .args in
-    c .tape-room .ensures ∙ sym (tape-write-sound (a .image .now) (a .state) (a .log .now) (a .tape .now) (a .start) (a .predicted .now) (a .addr) (length (a .bytes .now)) (sound-here (c .before)))
+number-here : (c : tie.After-tape-room) → let a = start (c .before .before) .args in
+    answer-number (c .tape-room .result)
+    ≡ tape-write-number (a .image .now) (a .state) (a .log .now) (a .tape .now) (a .start) (a .predicted .now) (a .addr) (length (a .bytes .now))
+number-here c = c .tape-room .ensures ∙ sym (tape-write-sound _ _ _ _ _ _ _ _ (sound-here (c .before)))
 
 -- there is room, where its test says so
-room-here : (c : tie.After-enum-told2) → TapeRoom (length (start (c .before .before .before .before) .args .image .now)) (start (c .before .before .before .before) .args .state) (length (start (c .before .before .before .before) .args .log .now)) (length (start (c .before .before .before .before) .args .predicted .now)) (start (c .before .before .before .before) .args .tape .now) (start (c .before .before .before .before) .args .start) (start (c .before .before .before .before) .args .addr) (length (start (c .before .before .before .before) .args .bytes .now))
-room-here c =
-    let a = start (c .before .before .before .before) .args in
-    tape-room-done (length (a .image .now)) (a .state) (length (a .log .now)) (length (a .predicted .now)) (a .tape .now) (a .start) (a .addr) (length (a .bytes .now)) (sym (c .before .before .tape-room .ensures) ∙ ap answer-number (c .enum-told2 .given .1))
+room-here : (c : tie.After-enum-told2) → let a = start (tested c .before) .args in
+    TapeRoom (length (a .image .now)) (a .state) (a .tape .now) (a .start) (a .addr) (length (a .bytes .now))
+room-here c = tape-room-done (sym (c .before .before .tape-room .ensures) ∙ ap answer-number (c .enum-told2 .given .1))
 
 returns : tie.Need-returns
 returns c =
     let checked = c .before .before in
     let a = checked .before .before .before .before .before .before .args in
-    let bad = unsound (length (a .image .now)) (a .state) (length (a .log .now)) (length (a .predicted .now)) (told-unsound _ (a .state) _ (checked .checked .ensures .0) (c .enum-told .given .1)) in
-    tape-writes-refused (a .image .now) (a .state) (a .log .now) (a .tape .now) (a .start) (a .predicted .now) (a .addr) (a .bytes .now) (sym (tape-write-unsound (a .image .now) (a .state) (a .log .now) (a .tape .now) (a .start) (a .predicted .now) (a .addr) (length (a .bytes .now)) bad)) BadState refl
+    let bad = unsound _ (a .state) _ (length (a .predicted .now)) (told-unsound _ (a .state) _ (checked .checked .ensures .0) (c .enum-told .given .1)) in
+    tape-writes-refused (sym (tape-write-unsound _ _ _ _ _ _ _ _ bad)) BadState refl
 
 returns-2 : tie.Need-returns-2
 returns-2 c =
-    let a = start (c .before) .args in
-    let bad = missized (length (a .image .now)) (a .state) (length (a .log .now)) (length (a .predicted .now)) (told-here (c .before) .good) (c .if1 .taken) in
-    tape-writes-refused (a .image .now) (a .state) (a .log .now) (a .tape .now) (a .start) (a .predicted .now) (a .addr) (a .bytes .now) (sym (tape-write-unsound (a .image .now) (a .state) (a .log .now) (a .tape .now) (a .start) (a .predicted .now) (a .addr) (length (a .bytes .now)) bad)) BadState refl
+    let bad = missized _ (start (c .before) .args .state) _ _ (told-here (c .before) .good) (c .if1 .taken) in
+    tape-writes-refused (sym (tape-write-unsound _ _ _ _ _ _ _ _ bad)) BadState refl
 
 tape-room-requires : tie.Need-tape-room-requires
 tape-room-requires c κs =
@@ -67,8 +68,7 @@ tape-room-requires c κs =
 
 recorded-requires : tie.Need-recorded-requires
 recorded-requires c κs =
-    let else1 = c .before .before .before .before in
-    let told = told-here (else1 .before) in
+    let told = told-here (tested (c .before) .before) in
     let room = room-here (c .before) .room in
     (room .few, omega (arith, told .counted, told .facts .buffer, room .fits))
 
@@ -76,30 +76,27 @@ predict-requires : tie.Need-predict-requires
 predict-requires c κs =
     let recorded = c .before .before .before .before in
     let told2 = recorded .before .before in
-    let else1 = told2 .before .before .before in
-    let a = start (else1 .before) .args in
-    let told = told-here (else1 .before) in
-    let checked = else1 .before .before .before .before in
-    subst⁻¹ (λ (st : State). Predictable (length (a .image .now)) st (length (recorded .recorded .last .1 .0)) (a .tape .now) (a .start) (length (a .predicted .now))) (recorded .recorded .ensures .0)
-    (subst⁻¹ (λ (n : ℕ). Predictable (length (a .image .now)) (appended (a .state) (a .addr) (length (a .bytes .now))) n (a .tape .now) (a .start) (length (a .predicted .now))) (recorded .recorded .kept .1 .0)
-    (predictable-with (length (a .image .now)) (a .state) (length (a .log .now)) (length (a .predicted .now)) (a .tape .now) (a .start) (a .addr) (length (a .bytes .now)) (checked .checked .ensures .1) (told .facts) (else1 .if1 .left) (room-here told2)))
+    let known = tested told2 .before in
+    let a = start known .args in
+    let L = length (a .image .now) in
+    let P = length (a .predicted .now) in
+    subst⁻¹ (λ (st : State). Predictable L st (length (recorded .recorded .last .1 .0)) (a .tape .now) (a .start) P) (recorded .recorded .ensures .0)
+    (subst⁻¹ (λ (n : ℕ). Predictable L (appended (a .state) (a .addr) (length (a .bytes .now))) n (a .tape .now) (a .start) P) (recorded .recorded .kept .1 .0)
+    (predictable-with (known .before .before .before .checked .ensures .1) (told-here known .facts) (tested told2 .if1 .left) (room-here told2)))
 
 returns-3 : tie.Need-returns-3
 returns-3 c =
     let recorded = c .before .before .before .before .before .before .before in
     let told2 = recorded .before .before in
-    let else1 = told2 .before .before .before in
-    let a = start (else1 .before) .args in
-    let told = told-here (else1 .before) in
-    let log = recorded .recorded .ensures .1 ∙ ap (λ (n : ℕ). update-bytes (a .log .now) n (a .bytes .now)) (told .counted) in
-    tape-writes-done (a .image .now) (a .state) (a .log .now) (a .tape .now) (a .start) (a .predicted .now) (a .addr) (a .bytes .now) (number-here (told2 .before .before)) (told2 .enum-told2 .given .1) (recorded .recorded .ensures .0) log
-    (c .before .before .predict .ensures ∙ ap₂ (λ (st : State) (l : List ℕ). predicted-now (a .image .now) st l (a .tape .now) (a .start)) (recorded .recorded .ensures .0) log)
+    let known = tested told2 .before in
+    let a = start known .args in
+    let log = recorded .recorded .ensures .1 ∙ ap (λ (n : ℕ). update-bytes (a .log .now) n (a .bytes .now)) (told-here known .counted) in
+    tape-writes-done (number-here (told2 .before .before)) (told2 .enum-told2 .given .1) (recorded .recorded .ensures .0) log
+    (c .before .before .predict .ensures
+    ∙ ap₂ (λ (st : State) (l : List ℕ). predicted-now (a .image .now) st l (a .tape .now) (a .start)) (recorded .recorded .ensures .0) log)
 
 returns-4 : tie.Need-returns-4
-returns-4 c =
-    let room = c .before .before in
-    let a = start (room .before .before) .args in
-    tape-writes-refused (a .image .now) (a .state) (a .log .now) (a .tape .now) (a .start) (a .predicted .now) (a .addr) (a .bytes .now) (number-here room) (c .enum-told3 .given .0 .0) (c .enum-told3 .given .1)
+returns-4 c = tape-writes-refused (number-here (c .before .before)) (c .enum-told3 .given .0 .0) (c .enum-told3 .given .1)
 
 pub tape-write-spec : {M : Type 1} → statement M
 tape-write-spec =

@@ -11,7 +11,7 @@ use borrow.Author.Needs.{needs}
 use Rattle.writelog.specs.Cut.{chunks, table-rows}
 use Rattle.records.specs.State.{log-records}
 use Rattle.replay.specs.Rows.{row-bytes, rows-right}
-use Rattle.replay.specs.AsyncSpec.{Write, size-to-chunks, flush-writes-selective}
+use Rattle.replay.specs.AsyncSpec.{Write, flush-writes-selective}
 use Rattle.region.specs.declared.Refusal.the-variants.{BadState, BadRows}
 use Rattle.region.proofs.Booleans.{both}
 use Rattle.writelog.proofs.CutLaws.{cut-unsound, cut-bad-rows, cut-good, cuts-done, cuts-refused}
@@ -78,7 +78,7 @@ returns-3 c =
     cuts-done (a .image .now) (a .state) (a .log .now) (a .rows .now) (cut-good (a .image .now) (a .state) (a .log .now) (a .rows .now) (told-here told .good) (rows-here else1))
     (c .before .kept .ensures ∙ sym (kept-by-records 8 (log-records (a .state)) (a .log .now) (table-rows (a .image .now) (a .state) (a .rows .now)) (omega (arith, facts .room, facts .buffer))))
     (c .emptied .ensures)
-    (c .before .before .before .before .replay-selected .ensures ∙ ap (λ (ws : List Write). flush-writes-selective 8 (a .image .now) ws (table-rows (a .image .now) (a .state) (a .rows .now))) (all-writes (length (a .image .now)) (a .state) (length (a .log .now)) (a .log .now)))
+    (c .before .before .before .before .replay-selected .ensures ∙ ap (λ (ws : List Write). flush-writes-selective 8 (a .image .now) ws (table-rows (a .image .now) (a .state) (a .rows .now))) (all-writes (a .state) (a .log .now)))
 
 pub cut-spec : {M : Type 1} → statement M
 cut-spec =

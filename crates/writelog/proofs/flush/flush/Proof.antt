@@ -33,7 +33,7 @@ returns-2 : tie.Need-returns-2
 returns-2 c =
     let told = c .before .before .before .before .before in
     let a = told .before .before .before .before .before .args in
-    flushes-done (a .image .now) (a .state) (a .log .now) (told-here told .good) (c .emptied .ensures) (c .before .before .before .replay-whole .ensures ∙ ap (λ (ws : List Write). committed (flush-writes (a .image .now) ws)) (all-writes (length (a .image .now)) (a .state) (length (a .log .now)) (a .log .now)))
+    flushes-done (a .image .now) (a .state) (a .log .now) (told-here told .good) (c .emptied .ensures) (c .before .before .before .replay-whole .ensures ∙ ap (λ (ws : List Write). committed (flush-writes (a .image .now) ws)) (all-writes (a .state) (a .log .now)))
 
 pub flush-spec : {M : Type 1} → statement M
 flush-spec =

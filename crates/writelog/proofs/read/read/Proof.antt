@@ -9,7 +9,7 @@ use borrow.Author.Needs.{needs}
 use Rattle.writelog.specs.Read.{read-number}
 use Rattle.records.specs.State.{view}
 use Rattle.replay.specs.AsyncSpec.{readable}
-use Rattle.region.proofs.AnswerLaws.{done-changed, refused-left}
+use Rattle.region.proofs.AnswerLaws.{done-changed, refused-left, changed}
 use Rattle.region.specs.Pmemspec.{extract-bytes}
 use Rattle.region.specs.Answer.{answer-number}
 use Rattle.writelog.proofs.ReadLaws.{Asked, asked-done}
@@ -33,7 +33,7 @@ returns c =
     let a = fill .before .before .before .before .before .args in
     let why = c .before .enum-told2 .given .0 .0 in
     let e = sym (fill .read-fill .ensures .answers) ∙ ap answer-number (c .before .enum-told2 .given .1) in
-    record { block = refl; offset = sym (add-zero (a .work .ptr .1)) ∙ ap (λ (k : ℕ). a .work .ptr .1 + k) (refused-left why (a .addr) 0 e); bytes = ap (extract-bytes (readable (view (a .image .now) (a .state) (a .log .now))) (a .addr)) (refused-left why (a .len) 0 e) }
+    record { block = refl; offset = sym (add-zero (a .work .ptr .1)) ∙ ap (λ (k : ℕ). a .work .ptr .1 + k) (refused-left why _ e); bytes = ap (extract-bytes (readable (view (a .image .now) (a .state) (a .log .now))) (a .addr)) (refused-left why _ e) }
 
 add-end : tie.Need-add-end
 add-end c = omega (arith, asked-here c)
@@ -47,7 +47,7 @@ returns-2 c =
     let fill = told .before .before .before .before in
     let a = fill .before .before .before .before .before .args in
     let e = done-here told in
-    record { block = refl; offset = add-comm (a .addr) (a .work .ptr .1) ∙ ap (λ (k : ℕ). a .work .ptr .1 + k) (done-changed (a .addr) 0 e); bytes = ap₂ (λ (w : List ℕ) (n : ℕ). take n (drop (a .addr) w)) (fill .read-fill .ensures .work-after ∙ sym (done-changed (readable (view (a .image .now) (a .state) (a .log .now))) (a .work .now) e)) (add-sub-cancel-left (a .addr) (a .len) ∙ done-changed (a .len) 0 e) }
+    record { block = refl; offset = add-comm (a .addr) (a .work .ptr .1) ∙ ap (λ (k : ℕ). a .work .ptr .1 + k) (done-changed _ e); bytes = ap₂ (λ (w : List ℕ) (n : ℕ). take n (drop (a .addr) w)) (changed _ (fill .read-fill .ensures .work-after) e) (add-sub-cancel-left (a .addr) (a .len) ∙ done-changed _ e) }
 
 pub read-spec : {M : Type 1} → statement M
 read-spec =

@@ -7,9 +7,8 @@ use lib.ListN.{length}
 use borrow.Author.Needs.{needs}
 use Rattle.writelog.specs.Read.{read-number}
 use Rattle.records.specs.Log.{last-writes, Remaining}
-use Rattle.records.specs.State.{view}
 use Rattle.replay.proofs.Laid.{update-whole}
-use Rattle.replay.specs.AsyncSpec.{Write, committed, flush-writes, readable}
+use Rattle.replay.specs.AsyncSpec.{Write, committed, flush-writes}
 use Rattle.region.proofs.AnswerLaws.{done-changed, refused-left}
 use Rattle.region.specs.Answer.{answer-number}
 use Rattle.writelog.proofs.ReadLaws.{Asked, asked-done}
@@ -33,7 +32,7 @@ returns : tie.Need-returns
 returns c =
     let asked = c .before .before in
     let a = asked .before .before .before .before .args in
-    record { answers = asked .asked .ensures .0; work-after = refused-left (c .enum-told2 .given .0 .0) (readable (view (a .image .now) (a .state) (a .log .now))) (a .work .now) (sym (asked .asked .ensures .0) ∙ ap answer-number (c .enum-told2 .given .1)) }
+    record { answers = asked .asked .ensures .0; work-after = refused-left (c .enum-told2 .given .0 .0) _ (sym (asked .asked .ensures .0) ∙ ap answer-number (c .enum-told2 .given .1)) }
 
 lay-requires : tie.Need-lay-requires
 lay-requires c κs = omega (arith, asked-here (c .before) .whole)
@@ -48,7 +47,7 @@ returns-2 : tie.Need-returns-2
 returns-2 c =
     let told = c .before .before .before .before .before .before .before .before in
     let a = told .before .before .before .before .before .before .args in
-    record { answers = told .before .before .asked .ensures .0; work-after = c .before .before .replay-whole .ensures ∙ ap (λ (w : List ℕ). committed (flush-writes w (last-writes (a .state) (a .state .count) (a .log .now) 0))) (c .before .before .before .before .before .before .lay .ensures ∙ update-whole (a .work .now) (a .image .now) (asked-here told .whole)) ∙ ap (λ (ws : List Write). committed (flush-writes (a .image .now) ws)) (all-writes (length (a .image .now)) (a .state) (length (a .log .now)) (a .log .now)) ∙ done-changed (readable (view (a .image .now) (a .state) (a .log .now))) (a .work .now) (done-here told) }
+    record { answers = told .before .before .asked .ensures .0; work-after = c .before .before .replay-whole .ensures ∙ ap (λ (w : List ℕ). committed (flush-writes w (last-writes (a .state) (a .state .count) (a .log .now) 0))) (c .before .before .before .before .before .before .lay .ensures ∙ update-whole (a .work .now) (a .image .now) (asked-here told .whole)) ∙ ap (λ (ws : List Write). committed (flush-writes (a .image .now) ws)) (all-writes (a .state) (a .log .now)) ∙ done-changed _ (done-here told) }
 
 pub read-fill-spec : {M : Type 1} → statement M
 read-fill-spec =
