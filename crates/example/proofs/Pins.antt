@@ -3,45 +3,24 @@ use Prim.Native.Nat.{ℕ}
 use native.Mathlib.Omega.{arith}
 use mathlib.Core.Path.{_≡_, refl, sym, ap, _∙_}
 use mathlib.Core.List.{List}
-use Rattle.region.specs.Answer.{refusal-number}
-use Rattle.region.specs.declared.Refusal.{Refusal}
-use Rattle.region.specs.declared.Refusal.the-variants.{BadState, OutOfRange, TooManyWrites, TooManyBytes, BadSheet, BrokenImage, TooManyPoints, BadRows, BadTape, NotPredicted, TooManyRounds}
 use Rattle.region.specs.declared.Answer.{Answer}
-use Rattle.region.specs.declared.Answer.the-variants as answers
-use Rattle.region.proofs.AnswerLaws.{answers-by-number, refusal-not-done}
-use Rattle.gate.specs.Judgement.{denied-number}
+use Rattle.region.proofs.AnswerLaws.{answers-by-number, refusals-by-number, refusal-not-done}
+use Rattle.gate.proofs.Meaning.{denial-is-no-refusal}
 use Rattle.example.specs.Setup.{SetsUp}
 use Rattle.example.specs.Run.{run-answer-number, Runs}
 use Rattle.example.specs.declared.RunAnswer.{RunAnswer}
 use Rattle.example.specs.declared.RunAnswer.the-variants.{Done, Refused, Denied}
 
--- 8 is the number of no refusal
-never-denied : (why : Refusal) → refusal-number why ≡ denied-number → ⊥
-never-denied BadState e = omega arith
-never-denied OutOfRange e = omega arith
-never-denied TooManyWrites e = omega arith
-never-denied TooManyBytes e = omega arith
-never-denied BadSheet e = omega arith
-never-denied BrokenImage e = omega arith
-never-denied TooManyPoints e = omega arith
-never-denied BadRows e = omega arith
-never-denied BadTape e = omega arith
-never-denied NotPredicted e = omega arith
-never-denied TooManyRounds e = omega arith
-
--- so the number of a run's answer settles it
+-- the number of a run's answer settles it
 pub run-answers-by-number : (a b : RunAnswer) → run-answer-number a ≡ run-answer-number b → a ≡ b
 run-answers-by-number Done Done e = refl
 run-answers-by-number Done (Refused why) e = absurd (omega (arith, refusal-not-done why))
 run-answers-by-number Done Denied e = absurd (omega arith)
 run-answers-by-number (Refused why) Done e = absurd (omega (arith, refusal-not-done why))
-run-answers-by-number (Refused why) (Refused reason) e = ap Refused (same-refusal (answers-by-number (answers.Refused why) (answers.Refused reason) e))
-  where
-    same-refusal : {a b : Refusal} → answers.Refused a ≡ answers.Refused b → a ≡ b
-    same-refusal e = cc
-run-answers-by-number (Refused why) Denied e = absurd (never-denied why e)
+run-answers-by-number (Refused why) (Refused reason) e = ap Refused (refusals-by-number why reason e)
+run-answers-by-number (Refused why) Denied e = absurd (denial-is-no-refusal why e)
 run-answers-by-number Denied Done e = absurd (omega arith)
-run-answers-by-number Denied (Refused why) e = absurd (never-denied why (sym e))
+run-answers-by-number Denied (Refused why) e = absurd (denial-is-no-refusal why (sym e))
 run-answers-by-number Denied Denied e = refl
 
 pub sets-up-pin : (image : List ℕ) (addr val0 : ℕ) {a b : Answer} {i j : List ℕ} → SetsUp image addr val0 a i → SetsUp image addr val0 b j → (a ≡ b) × (i ≡ j)
