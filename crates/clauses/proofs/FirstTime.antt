@@ -62,7 +62,7 @@ module _ (sheet opened-image : List ℕ) where
       let fits₂ = twice-admissible image st log sheet work addr a b u there₁ in
       let g₂ = admitting _ _ _ sheet _ addr (b ∷ []) (fits₂ .0) (fits₂ .1) in
       let there₂ = twice image st log sheet work addr a b u there₁ g₂ in
-      let f = flushes-done _ _ _ (facts-sound _ _ _ (there₂ .logged .facts)) refl refl in
+      let f = flushes-done (facts-sound _ _ _ (there₂ .logged .facts)) refl refl in
       record { state = _; image-now = _; log-now = _; work-now = _; goes = pair-goes image st log sheet work addr a b u there₁ there₂ f refl; run = r and gate g₁ and gate g₂ and flush f }
 
   round-goes-on : {image : List ℕ} {st : State} {log work : List ℕ} {addr a b : ℕ} → Under image st log sheet work addr a b → {h : History} → Run sheet opened-image h (desk image st log)

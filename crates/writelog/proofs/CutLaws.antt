@@ -42,7 +42,9 @@ module _ (image : List ℕ) (st : State) (log table : List ℕ) where
   unfolding cut-number
   cut-good e f = cond-when (sound (length image) st (length log)) after-1 1 e ∙ cond-when (rows-right (chunks image) (st .count) table) 0 9 f
 
-  pub cuts-done : cut-number image st log table ≡ 0 → {k : ℕ} {st′ : State} {image′ : List ℕ} → k ≡ cut-kept image st log table → st′ ≡ emptied st → image′ ≡ cut-image image st log table
+module _ {image : List ℕ} {st : State} {log table : List ℕ} where
+  pub cuts-done : cut-number image st log table ≡ 0 → {k : ℕ} {st′ : State} {image′ : List ℕ}
+      → k ≡ cut-kept image st log table → st′ ≡ emptied st → image′ ≡ cut-image image st log table
       → Cuts image st log table (Kept k) st′ image′
   cuts-done none kept s i =
       record {

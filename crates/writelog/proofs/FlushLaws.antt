@@ -22,13 +22,14 @@ module _ (image : List ℕ) (st : State) (log : List ℕ) where
   unfolding flush-number
   flush-unsound e = cond-unless (sound (length image) st (length log)) 0 1 e
 
+module _ {image : List ℕ} {st : State} {log : List ℕ} where
   pub flushes-done : sound (length image) st (length log) ≡ true → {st′ : State} {image′ : List ℕ} → st′ ≡ emptied st → image′ ≡ readable (view image st log)
       → Flushes image st log Done st′ image′
   flushes-done e s i =
-      let none = flush-sound e in
+      let none = flush-sound image st log e in
       record { answers = sym none; state-after = s ∙ done-changed _ none; image-after = i ∙ done-changed _ none }
 
   pub flushes-refused : sound (length image) st (length log) ≡ false → Flushes image st log (Refused BadState) st image
   flushes-refused e =
-      let one = flush-unsound e in
+      let one = flush-unsound image st log e in
       record { answers = sym one; state-after = refused-left BadState _ one; image-after = refused-left BadState _ one }

@@ -36,16 +36,16 @@ module _ (L : ℕ) (st : State) (log-length work-length addr len : ℕ) where
     unfolding asked-number
     asked-inside e = cond-when fit past 1 (both-true s (eq-eqb work-length L w)) ∙ cond-when (leb (addr + len) L) 0 2 e
 
-  -- what it means that a read is done
-  pub record Asked : Type 0 where
-    pub good : sound L st log-length ≡ true
-    pub whole : work-length ≡ L
-    pub lies : addr + len ≤ L
+-- what it means that a read is done
+pub record Asked (L : ℕ) (st : State) (log-length work-length addr len : ℕ) : Type 0 where
+  pub good : sound L st log-length ≡ true
+  pub whole : work-length ≡ L
+  pub lies : addr + len ≤ L
 
-  pub asked-done : asked-number L st log-length work-length addr len ≡ 0 → Asked
-  unfolding asked-number
-  asked-done e =
-      let a = passed _ e in
-      let b = passed _ (a .1) in
-      let f = both (sound L st log-length) (eqb work-length L) (a .0) in
-      record { good = f .0; whole = eqb-true work-length L (f .1); lies = leb-true (addr + len) L (b .0) }
+pub asked-done : {L : ℕ} {st : State} {log-length work-length addr len : ℕ}
+    → asked-number L st log-length work-length addr len ≡ 0 → Asked L st log-length work-length addr len
+unfolding asked-number
+asked-done e =
+    let a = passed _ e in
+    let f = both _ _ (a .0) in
+    record { good = f .0; whole = eqb-true _ _ (f .1); lies = leb-true _ _ (passed _ (a .1) .0) }

@@ -60,7 +60,8 @@ module _ (image : List ℕ) (st : State) (log : List ℕ) (addr n : ℕ) where
   write-sound e = cond-when (sound (length image) st (length log)) (room-number (length image) st addr n) 1 e
 
 -- the promise of a done write, and of a refused one
-module _ (image : List ℕ) (st : State) (log : List ℕ) (addr : ℕ) (bytes : List ℕ) {answer : Answer} (number : answer-number answer ≡ write-number image st log addr (length bytes)) where
+module _ {image : List ℕ} {st : State} {log : List ℕ} {addr : ℕ} {bytes : List ℕ} {answer : Answer}
+    (number : answer-number answer ≡ write-number image st log addr (length bytes)) where
   pub writes-done : {st′ : State} {log′ : List ℕ} → answer ≡ Done → st′ ≡ appended st addr (length bytes) → log′ ≡ update-bytes log (together (log-records st)) bytes
       → Writes image st log addr bytes answer st′ log′
   writes-done e s l =

@@ -12,6 +12,7 @@ use Rattle.writelog.specs.Cut.{chunks, table-rows}
 use Rattle.records.specs.State.{log-records}
 use Rattle.replay.specs.Rows.{row-bytes, rows-right}
 use Rattle.replay.specs.AsyncSpec.{Write, flush-writes-selective}
+use Rattle.region.specs.Limits.{const-persistence-chunk-size}
 use Rattle.region.specs.declared.Refusal.the-variants.{BadState, BadRows}
 use Rattle.region.proofs.Booleans.{both}
 use Rattle.writelog.proofs.CutLaws.{cut-unsound, cut-bad-rows, cut-good, cuts-done, cuts-refused}
@@ -26,20 +27,21 @@ abbrev start : tie.After-enum-told → tie.Start
 start c = c .before .before .before .before .before .before
 
 -- what the test of the state told
-told-here : (c : tie.After-enum-told) → Told (length (start c .args .image .now)) (start c .args .state) (length (start c .args .log .now)) (c .enum-told .given .0 .0)
+told-here : (c : tie.After-enum-told) → let a = start c .args in Told (length (a .image .now)) (a .state) (length (a .log .now)) (c .enum-told .given .0 .0)
 told-here c = told-bytes _ (start c .args .state) _ (c .before .before .checked .ensures .0) (c .enum-told .given .1)
 
 -- the table is right, once its test is passed, and so has a row for each write
-rows-here : (c : tie.Else1) → rows-right (chunks (start (c .before .before) .args .image .now)) (start (c .before .before) .args .state .count) (start (c .before .before) .args .rows .now) ≡ true
+rows-here : (c : tie.Else1) → let a = start (c .before .before) .args in rows-right (chunks (a .image .now)) (a .state .count) (a .rows .now) ≡ true
 rows-here c = sym (c .before .rows-right .ensures) ∙ not-false (c .before .rows-right .result) (c .if1 .left)
 
-table-length : (c : tie.Else1) → length (start (c .before .before) .args .rows .now) ≡ start (c .before .before) .args .state .count * row-bytes (chunks (start (c .before .before) .args .image .now))
+table-length : (c : tie.Else1) → let a = start (c .before .before) .args in length (a .rows .now) ≡ a .state .count * row-bytes (chunks (a .image .now))
 table-length c = eqb-true _ _ (both _ _ (rows-here c) .0)
 
 returns : tie.Need-returns
 returns c =
     let a = c .before .before .before .before .before .before .args in
-    cuts-refused (a .image .now) (a .state) (a .log .now) (a .rows .now) BadState (cut-unsound (a .image .now) (a .state) (a .log .now) (a .rows .now) (told-unsound _ (a .state) _ (c .before .before .checked .ensures .0) (c .enum-told2 .given .1)))
+    let bad = told-unsound _ (a .state) _ (c .before .before .checked .ensures .0) (c .enum-told2 .given .1) in
+    cuts-refused BadState (cut-unsound (a .image .now) (a .state) (a .log .now) (a .rows .now) bad)
 
 rows-right-requires : tie.Need-rows-right-requires
 rows-right-requires c κs =
@@ -49,14 +51,15 @@ rows-right-requires c κs =
 returns-2 : tie.Need-returns-2
 returns-2 c =
     let told = c .before .before in
-    let a = told .before .before .before .before .before .before .args in
-    cuts-refused (a .image .now) (a .state) (a .log .now) (a .rows .now) BadRows (cut-bad-rows (a .image .now) (a .state) (a .log .now) (a .rows .now) (told-here told .good) (sym (c .before .rows-right .ensures) ∙ not-true (c .before .rows-right .result) (c .if1 .taken)))
+    let a = start told .args in
+    let bad = sym (c .before .rows-right .ensures) ∙ not-true (c .before .rows-right .result) (c .if1 .taken) in
+    cuts-refused BadRows (cut-bad-rows (a .image .now) (a .state) (a .log .now) (a .rows .now) (told-here told .good) bad)
 
 replay-selected-requires : tie.Need-replay-selected-requires
 replay-selected-requires c κs =
     let else1 = c .before .before .before in
     let told = else1 .before .before in
-    let a = told .before .before .before .before .before .before .args in
+    let a = start told .args in
     let width = c .before .row-bytes .ensures ∙ ap row-bytes (c .before .before .size-to-chunks .ensures) in (
       all-remain _ (a .state) _ (told .before .before .checked .ensures .1) (told-here told .facts),
       (width, omega (arith, table-length else1, ap (λ (w : ℕ). a .state .count * w) width)),
@@ -67,18 +70,28 @@ kept-requires c κs =
     let else1 = c .before .before .before .before .before .before in
     let told = else1 .before .before in
     let facts = told-here told .facts in
-    record { sized = told .before .before .checked .ensures .1; short = facts .short; few = facts .few; inside = facts .inside; room = facts .room; right = omega (arith, table-length else1) }
+    record {
+      sized = told .before .before .checked .ensures .1;
+      short = facts .short;
+      few = facts .few;
+      inside = facts .inside;
+      room = facts .room;
+      right = omega (arith, table-length else1);
+    }
 
 returns-3 : tie.Need-returns-3
 returns-3 c =
     let else1 = c .before .before .before .before .before .before .before .before in
     let told = else1 .before .before in
-    let a = told .before .before .before .before .before .before .args in
+    let a = start told .args in
     let facts = told-here told .facts in
-    cuts-done (a .image .now) (a .state) (a .log .now) (a .rows .now) (cut-good (a .image .now) (a .state) (a .log .now) (a .rows .now) (told-here told .good) (rows-here else1))
-    (c .before .kept .ensures ∙ sym (kept-by-records 8 (log-records (a .state)) (a .log .now) (table-rows (a .image .now) (a .state) (a .rows .now)) (omega (arith, facts .room, facts .buffer))))
+    let C = const-persistence-chunk-size in
+    let rows = table-rows (a .image .now) (a .state) (a .rows .now) in
+    cuts-done (cut-good (a .image .now) (a .state) (a .log .now) (a .rows .now) (told-here told .good) (rows-here else1))
+    (c .before .kept .ensures ∙ sym (kept-by-records C (log-records (a .state)) (a .log .now) rows (omega (arith, facts .room, facts .buffer))))
     (c .emptied .ensures)
-    (c .before .before .before .before .replay-selected .ensures ∙ ap (λ (ws : List Write). flush-writes-selective 8 (a .image .now) ws (table-rows (a .image .now) (a .state) (a .rows .now))) (all-writes (a .state) (a .log .now)))
+    (c .before .before .before .before .replay-selected .ensures
+    ∙ ap (λ (ws : List Write). flush-writes-selective C (a .image .now) ws rows) (all-writes (a .state) (a .log .now)))
 
 pub cut-spec : {M : Type 1} → statement M
 cut-spec =

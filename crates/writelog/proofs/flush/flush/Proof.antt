@@ -15,13 +15,13 @@ abbrev start : tie.After-enum-told → tie.Start
 start c = c .before .before .before .before .before
 
 -- what the test of the state told
-told-here : (c : tie.After-enum-told) → Told (length (start c .args .image .now)) (start c .args .state) (length (start c .args .log .now)) (c .enum-told .given .0 .0)
+told-here : (c : tie.After-enum-told) → let a = start c .args in Told (length (a .image .now)) (a .state) (length (a .log .now)) (c .enum-told .given .0 .0)
 told-here c = told-bytes _ (start c .args .state) _ (c .before .before .checked .ensures .0) (c .enum-told .given .1)
 
 returns : tie.Need-returns
 returns c =
     let a = c .before .before .before .before .before .args in
-    flushes-refused (a .image .now) (a .state) (a .log .now) (told-unsound _ (a .state) _ (c .before .before .checked .ensures .0) (c .enum-told2 .given .1))
+    flushes-refused (told-unsound _ (a .state) _ (c .before .before .checked .ensures .0) (c .enum-told2 .given .1))
 
 replay-whole-requires : tie.Need-replay-whole-requires
 replay-whole-requires c κs =
@@ -32,8 +32,9 @@ replay-whole-requires c κs =
 returns-2 : tie.Need-returns-2
 returns-2 c =
     let told = c .before .before .before .before .before in
-    let a = told .before .before .before .before .before .args in
-    flushes-done (a .image .now) (a .state) (a .log .now) (told-here told .good) (c .emptied .ensures) (c .before .before .before .replay-whole .ensures ∙ ap (λ (ws : List Write). committed (flush-writes (a .image .now) ws)) (all-writes (a .state) (a .log .now)))
+    let a = start told .args in
+    flushes-done (told-here told .good) (c .emptied .ensures)
+    (c .before .before .before .replay-whole .ensures ∙ ap (λ (ws : List Write). committed (flush-writes (a .image .now) ws)) (all-writes (a .state) (a .log .now)))
 
 pub flush-spec : {M : Type 1} → statement M
 flush-spec =

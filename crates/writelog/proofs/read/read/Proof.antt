@@ -21,11 +21,13 @@ abbrev start : tie.After-enum-told → tie.Start
 start c = c .before .before .before .before .before .before .before .before .before
 
 -- the read is done, where its number says so
-done-here : (c : tie.After-enum-told) → read-number (start c .args .image .now) (start c .args .state) (start c .args .log .now) (start c .args .work .now) (start c .args .addr) (start c .args .len) ≡ 0
+done-here : (c : tie.After-enum-told) → let a = start c .args in
+    read-number (a .image .now) (a .state) (a .log .now) (a .work .now) (a .addr) (a .len) ≡ 0
 done-here c = sym (c .before .before .before .before .read-fill .ensures .answers) ∙ ap answer-number (c .enum-told .given .1)
 
-asked-here : (c : tie.After-enum-told) → Asked (length (start c .args .image .now)) (start c .args .state) (length (start c .args .log .now)) (length (start c .args .work .now)) (start c .args .addr) (start c .args .len)
-asked-here c = asked-done _ (start c .args .state) _ _ _ _ (done-here c)
+asked-here : (c : tie.After-enum-told) → let a = start c .args in
+    Asked (length (a .image .now)) (a .state) (length (a .log .now)) (length (a .work .now)) (a .addr) (a .len)
+asked-here c = asked-done (done-here c)
 
 returns : tie.Need-returns
 returns c =
@@ -33,7 +35,11 @@ returns c =
     let a = fill .before .before .before .before .before .args in
     let why = c .before .enum-told2 .given .0 .0 in
     let e = sym (fill .read-fill .ensures .answers) ∙ ap answer-number (c .before .enum-told2 .given .1) in
-    record { block = refl; offset = sym (add-zero (a .work .ptr .1)) ∙ ap (λ (k : ℕ). a .work .ptr .1 + k) (refused-left why _ e); bytes = ap (extract-bytes (readable (view (a .image .now) (a .state) (a .log .now))) (a .addr)) (refused-left why _ e) }
+    record {
+      block = refl;
+      offset = sym (add-zero (a .work .ptr .1)) ∙ ap (λ (k : ℕ). a .work .ptr .1 + k) (refused-left why _ e);
+      bytes = ap (extract-bytes (readable (view (a .image .now) (a .state) (a .log .now))) (a .addr)) (refused-left why _ e);
+    }
 
 add-end : tie.Need-add-end
 add-end c = omega (arith, asked-here c)
@@ -47,7 +53,13 @@ returns-2 c =
     let fill = told .before .before .before .before in
     let a = fill .before .before .before .before .before .args in
     let e = done-here told in
-    record { block = refl; offset = add-comm (a .addr) (a .work .ptr .1) ∙ ap (λ (k : ℕ). a .work .ptr .1 + k) (done-changed _ e); bytes = ap₂ (λ (w : List ℕ) (n : ℕ). take n (drop (a .addr) w)) (changed _ (fill .read-fill .ensures .work-after) e) (add-sub-cancel-left (a .addr) (a .len) ∙ done-changed _ e) }
+    record {
+      block = refl;
+      offset = add-comm (a .addr) (a .work .ptr .1) ∙ ap (λ (k : ℕ). a .work .ptr .1 + k) (done-changed _ e);
+      bytes =
+          ap₂ (λ (w : List ℕ) (n : ℕ). take n (drop (a .addr) w)) (changed _ (fill .read-fill .ensures .work-after) e)
+          (add-sub-cancel-left (a .addr) (a .len) ∙ done-changed _ e);
+    }
 
 pub read-spec : {M : Type 1} → statement M
 read-spec =

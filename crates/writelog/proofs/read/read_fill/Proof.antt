@@ -22,11 +22,13 @@ abbrev start : tie.After-enum-told → tie.Start
 start c = c .before .before .before .before .before .before
 
 -- the read is done, where its test says so
-done-here : (c : tie.After-enum-told) → read-number (start c .args .image .now) (start c .args .state) (start c .args .log .now) (start c .args .work .now) (start c .args .addr) (start c .args .len) ≡ 0
+done-here : (c : tie.After-enum-told) → let a = start c .args in
+    read-number (a .image .now) (a .state) (a .log .now) (a .work .now) (a .addr) (a .len) ≡ 0
 done-here c = sym (c .before .before .asked .ensures .0) ∙ ap answer-number (c .enum-told .given .1)
 
-asked-here : (c : tie.After-enum-told) → Asked (length (start c .args .image .now)) (start c .args .state) (length (start c .args .log .now)) (length (start c .args .work .now)) (start c .args .addr) (start c .args .len)
-asked-here c = asked-done _ (start c .args .state) _ _ _ _ (done-here c)
+asked-here : (c : tie.After-enum-told) → let a = start c .args in
+    Asked (length (a .image .now)) (a .state) (length (a .log .now)) (length (a .work .now)) (a .addr) (a .len)
+asked-here c = asked-done (done-here c)
 
 returns : tie.Need-returns
 returns c =

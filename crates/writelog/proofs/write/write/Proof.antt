@@ -22,28 +22,25 @@ abbrev asked : tie.After-enum-told2 → tie.After-room
 asked c = c .before .before
 
 -- what the test of the state told
-told-here : (c : tie.After-known-told) → Told (length (start c .args .image .now)) (start c .args .state) (length (start c .args .log .now)) (c .before .used .given .0 .0)
+told-here : (c : tie.After-known-told) → let a = start c .args in Told (length (a .image .now)) (a .state) (length (a .log .now)) (c .before .used .given .0 .0)
 told-here c = told-bytes _ (start c .args .state) _ (c .before .before .before .checked .ensures .0) (c .before .used .given .1)
 
 -- a sound state has the number of the room that there is
-number-here : (c : tie.After-room)
-    → answer-number (c .room .result) ≡ write-number (start (c .before) .args .image .now) (start (c .before) .args .state) (start (c .before) .args .log .now) (start (c .before) .args .addr) (length (start (c .before) .args .bytes .now))
+number-here : (c : tie.After-room) → let a = start (c .before) .args in
+    answer-number (c .room .result) ≡ write-number (a .image .now) (a .state) (a .log .now) (a .addr) (length (a .bytes .now))
 number-here c =
     let a = start (c .before) .args in
     c .room .ensures ∙ sym (write-sound (a .image .now) (a .state) (a .log .now) (a .addr) (length (a .bytes .now)) (told-here (c .before) .good))
 
 -- there is room, where its test says so
-room-here : (c : tie.After-enum-told2) → Room (length (start (asked c .before) .args .image .now)) (start (asked c .before) .args .state) (start (asked c .before) .args .addr) (length (start (asked c .before) .args .bytes .now))
+room-here : (c : tie.After-enum-told2) → let a = start (asked c .before) .args in Room (length (a .image .now)) (a .state) (a .addr) (length (a .bytes .now))
 room-here c = room-done _ (start (asked c .before) .args .state) _ _ (sym (asked c .room .ensures) ∙ ap answer-number (c .enum-told2 .given .1))
 
 returns : tie.Need-returns
 returns c =
     let a = c .before .before .before .before .before .before .args in
     let bad = told-unsound _ (a .state) _ (c .before .before .checked .ensures .0) (c .enum-told .given .1) in
-    writes-refused (a .image .now) (a .state) (a .log .now) (a .addr) (a .bytes .now)
-    (sym (write-unsound (a .image .now) (a .state) (a .log .now) (a .addr) (length (a .bytes .now)) bad))
-    BadState
-    refl
+    writes-refused (sym (write-unsound (a .image .now) (a .state) (a .log .now) (a .addr) (length (a .bytes .now)) bad)) BadState refl
 
 room-requires : tie.Need-room-requires
 room-requires c κs =
@@ -61,14 +58,11 @@ returns-2 c =
     let told2 = c .before .before .before .before in
     let a = start (asked told2 .before) .args in
     let put = c .before .before .recorded in
-    writes-done (a .image .now) (a .state) (a .log .now) (a .addr) (a .bytes .now) (number-here (asked told2)) (told2 .enum-told2 .given .1) (put .ensures .0)
+    writes-done (number-here (asked told2)) (told2 .enum-told2 .given .1) (put .ensures .0)
     (put .ensures .1 ∙ ap (λ (n : ℕ). update-bytes (a .log .now) n (a .bytes .now)) (told-here (asked told2 .before) .counted))
 
 returns-3 : tie.Need-returns-3
-returns-3 c =
-    let room = c .before .before in
-    let a = start (room .before) .args in
-    writes-refused (a .image .now) (a .state) (a .log .now) (a .addr) (a .bytes .now) (number-here room) (c .enum-told3 .given .0 .0) (c .enum-told3 .given .1)
+returns-3 c = writes-refused (number-here (c .before .before)) (c .enum-told3 .given .0 .0) (c .enum-told3 .given .1)
 
 pub write-spec : {M : Type 1} → statement M
 write-spec =
