@@ -1,5 +1,5 @@
--- The correspondence that pmem_async_equiv_t.rs sketches: for every log and every crash of it there is a tape that foretells just that crash, and the predicted image is the
--- original's durable state for the resolved prophecies. The other way round a tape's cut is a crash. Assumes nothing.
+-- The correspondence that pmem_async_equiv_t.rs sketches: for every log and every crash of it there is a tape that foretells just that crash, and the
+-- predicted image is the original's durable state for the resolved prophecies. The other way round a tape's cut is a crash. Assumes nothing.
 use Prim.Native.Nat.{ℕ, _≤_}
 use native.Mathlib.Omega.{arith}
 use mathlib.Core.Path.{_≡_, refl, sym, ap, subst, subst⁻¹, _∙_}
@@ -44,7 +44,8 @@ module _ (C : ℕ) (v : AsyncView) where
   n = length (v .outstanding-writes)
 
   -- an epoch that tells a future tells it of every log with as many writes
-  pub telling-resolves : (tape : List ℕ) (start : ℕ) (e : Foreseen) → length (e .rows) ≡ n → TellsEpoch K tape start e → Resolves C v tape start (e .flushing) (e .rows)
+  pub telling-resolves : (tape : List ℕ) (start : ℕ) (e : Foreseen) → length (e .rows) ≡ n → TellsEpoch K tape start e
+      → Resolves C v tape start (e .flushing) (e .rows)
   telling-resolves tape start e l t =
       let rows : epoch-rows K n tape start ≡ e .rows = subst (λ k. epoch-rows K k tape start ≡ e .rows) l (t .rows-tell) in
       record {
@@ -58,8 +59,9 @@ module _ (C : ℕ) (v : AsyncView) where
   pub every-prophecy-has-a-tape : (flushing : Bool) (rows : List (List Bool)) → has-shape K n rows → (before after : List ℕ)
       → Resolves C v (before ++ (epoch-bytes K (record { flushing = flushing; rows = rows }) ++ after)) (length before) flushing rows
   every-prophecy-has-a-tape flushing rows h before after =
-      telling-resolves (before ++ (epoch-bytes K (record { flushing = flushing; rows = rows }) ++ after)) (length before) (record { flushing = flushing; rows = rows }) (h .row-for-each-write)
-      (epoch-tells K (record { flushing = flushing; rows = rows }) (record { row-for-each-write = refl; bit-for-each-chunk = h .bit-for-each-chunk }) before after)
+      let e : Foreseen = record { flushing = flushing; rows = rows } in
+      telling-resolves (before ++ (epoch-bytes K e ++ after)) (length before) e (h .row-for-each-write)
+      (epoch-tells K e (record { row-for-each-write = refl; bit-for-each-chunk = h .bit-for-each-chunk }) before after)
 
   -- `crash` of the original: any crash of any log was foretold by some tape, and what is found is the predicted image
   pub every-crash-has-a-tape : (x : List ℕ) (rows : List (List Bool)) → can-crash-as C v x rows
@@ -68,22 +70,29 @@ module _ (C : ℕ) (v : AsyncView) where
       let shape = crash-rows-shaped C v x rows h in
       let e : Foreseen = record { flushing = false; rows = rows } in
       let width : has-shape K (length rows) rows = record { row-for-each-write = refl; bit-for-each-chunk = shape .bit-for-each-chunk } in
-      let resolves = every-prophecy-has-a-tape false rows shape [] [] in
-      (epoch-bytes K e ++ [], bytes-of-append (epoch-bytes K e) [] (bytes-of-epoch K e width) (λ i. lit< tt), resolves, h .leaves ∙ sym (ap (λ w. w .durable-state) (resolves .view-is)))
+      let resolves = every-prophecy-has-a-tape false rows shape [] [] in (
+        epoch-bytes K e ++ [],
+        bytes-of-append (epoch-bytes K e) [] (bytes-of-epoch K e width) (λ i. lit< tt),
+        resolves,
+        h .leaves ∙ sym (ap (λ w. w .durable-state) (resolves .view-is)),
+      )
 
   -- so the cuts by tape are the crashes
-  pub tapes-cover : (x : List ℕ)
-      → can-crash C v x ↔ ((tape : List ℕ) × are-bytes tape × (epoch-number K n tape 0 ≡ 0) × (flush-foretold tape 0 ≡ false) × (x ≡ predicted-image C tape 0 v))
+  abbrev pub CutByTape : List ℕ → Type 0
+  CutByTape x = (tape : List ℕ) × are-bytes tape × (epoch-number K n tape 0 ≡ 0) × (flush-foretold tape 0 ≡ false) × (x ≡ predicted-image C tape 0 v)
+
+  pub tapes-cover : (x : List ℕ) → can-crash C v x ↔ CutByTape x
   tapes-cover x = (to, from)
     where
-      to : can-crash C v x → (tape : List ℕ) × are-bytes tape × (epoch-number K n tape 0 ≡ 0) × (flush-foretold tape 0 ≡ false) × (x ≡ predicted-image C tape 0 v)
+      to : can-crash C v x → CutByTape x
       to (rows, h) = let found = every-crash-has-a-tape x rows h in (found .0, found .1, found .2 .right, found .2 .header-tells, found .3)
 
-      from : ((tape : List ℕ) × are-bytes tape × (epoch-number K n tape 0 ≡ 0) × (flush-foretold tape 0 ≡ false) × (x ≡ predicted-image C tape 0 v)) → can-crash C v x
+      from : CutByTape x → can-crash C v x
       from (tape, b, r, f, e) = (epoch-rows K n tape 0, subst⁻¹ (λ y. can-crash-as C v y (epoch-rows K n tape 0)) e (foretold-cut-is-a-crash C tape 0 v f))
 
 -- and at the call: every crash of a sound log is done by the tape cut of some tape, whose promise then leaves it as the image
-pub every-crash-is-a-tape-cut : (image : List ℕ) (st : State) (log predicted : List ℕ) → length (st .records) ≡ writes-limit → sound (length image) st (length log) ≡ true → length predicted ≡ length image
+pub every-crash-is-a-tape-cut : (image : List ℕ) (st : State) (log predicted : List ℕ)
+    → length (st .records) ≡ writes-limit → sound (length image) st (length log) ≡ true → length predicted ≡ length image
     → (x : List ℕ) (rows : List (List Bool)) → can-crash-as const-persistence-chunk-size (view image st log) x rows
     → (tape : List ℕ) × are-bytes tape × (tape-cut-number image st log tape 0 predicted ≡ 0) × (predicted-now image st log tape 0 ≡ x)
 every-crash-is-a-tape-cut image st log predicted sized good same x rows h =
@@ -95,6 +104,7 @@ every-crash-is-a-tape-cut image st log predicted sized good same x rows h =
     = subst (λ k. epoch-number (chunks const-persistence-chunk-size v) k tape 0 ≡ 0) (writes-counted image st log few) (found .2 .right) in (
       tape,
       found .1,
-      ending-foretold (length image) st (length log) (length predicted) false tape 0 (tape-sound-there (length image) st (length log) (length predicted) good same) epoch (ap (λ b. Bool·beq b false) (found .2 .header-tells)),
+      ending-foretold (length image) st _ _ false tape 0 (tape-sound-there (length image) st _ _ good same) epoch
+          (ap (λ b. Bool·beq b false) (found .2 .header-tells)),
       sym (found .3),
     )

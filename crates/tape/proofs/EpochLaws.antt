@@ -82,7 +82,9 @@ module _ (tape : List ℕ) (start : ℕ) where
     cut-header-right e = first-test ∙ ap (λ (x : ℕ). eqb x flush-header || eqb x cut-header) e
 
     pub other-header : (header tape start ≡ flush-header → ⊥) → (header tape start ≡ cut-header → ⊥) → header-right tape start ≡ false
-    other-header f c = first-test ∙ ap (λ (b : Bool). b || eqb (header tape start) cut-header) (ne-eqb (header tape start) flush-header f) ∙ ne-eqb (header tape start) cut-header c
+    other-header f c =
+        first-test ∙ ap (λ (b : Bool). b || eqb (header tape start) cut-header) (ne-eqb (header tape start) flush-header f)
+        ∙ ne-eqb (header tape start) cut-header c
 
 -- the bytes of the rows fit behind the header, without a sum of the start
 pub fits-behind : (m start n : ℕ) → start < n → ltb m (n - start) ≡ leb (start + 1 + m) n

@@ -1,5 +1,5 @@
--- What a tape foretells of a log, step by step: nothing of an empty one; with one write more, a part-write by the new row, or the whole write under header 80. So the
--- predictor is right at every step and not only at the cut. Assumes nothing.
+-- What a tape foretells of a log, step by step: nothing of an empty one; with one write more, a part-write by the new row, or the whole write under
+-- header 80. So the predictor is right at every step and not only at the cut. Assumes nothing.
 use Prim.Native.Nat.{ℕ, _+_, _<_}
 use native.Mathlib.Numerals.{add-one}
 use mathlib.Core.Path.{_≡_, sym, ap, subst⁻¹, _∙_}
@@ -11,7 +11,6 @@ use Rattle.region.specs.View.{valid, can-result-from-write, flush-predicted}
 use Rattle.replay.specs.AsyncSpec.{AsyncView, size-to-chunks, write, flush-selective, apply-write-selective, can-crash-as, can-crash}
 use Rattle.replay.specs.Rows.{row-at}
 use Rattle.cuts.specs.Bits.{new-write, chunks}
-use Rattle.cuts.specs.Prophecy.{prophecy}
 use Rattle.cuts.proofs.OneMore.{cut-of-a-write, read-of-a-write}
 use Rattle.cuts.proofs.Shape.{shaped-rows-crash}
 use Rattle.cuts.proofs.Tables.{rows-at-shape}
@@ -23,7 +22,8 @@ use Rattle.tape.proofs.RowsLaws.{rows-at-last}
 
 module _ (C : ℕ) (tape : List ℕ) (start : ℕ) where
   -- on an empty log, as after a flush or a cut, the image itself is predicted
-  pub foretold-of-nothing : (s : List ℕ) → foretold C tape start (record { state-at-last-flush = s; outstanding-writes = [] }) ≡ record { read-state = s; durable-state = s }
+  pub foretold-of-nothing : (s : List ℕ)
+      → foretold C tape start (record { state-at-last-flush = s; outstanding-writes = [] }) ≡ record { read-state = s; durable-state = s }
   foretold-of-nothing s = prophecy-of-nothing C (flush-foretold tape start) s (epoch-rows (size-to-chunks C (length s)) 0 tape start)
 
   pub predicted-of-nothing : (s : List ℕ) → predicted-image C tape start (record { state-at-last-flush = s; outstanding-writes = [] }) ≡ s
@@ -45,11 +45,14 @@ module _ (C : ℕ) (tape : List ℕ) (start : ℕ) where
 
     -- a cut by this tape is a crash of the original with the epoch's rows
     pub foretold-cut-is-a-crash : flush-foretold tape start ≡ false → can-crash-as C v (predicted-image C tape start v) (epoch-rows K n tape start)
-    foretold-cut-is-a-crash e = subst⁻¹ (λ x. can-crash-as C v x (epoch-rows K n tape start)) (predicted-cut C tape start v e) (shaped-rows-crash C v (epoch-rows K n tape start) (rows-at-shape K n tape (start + 1)))
+    foretold-cut-is-a-crash e =
+        subst⁻¹ (λ x. can-crash-as C v x (epoch-rows K n tape start)) (predicted-cut C tape start v e)
+        (shaped-rows-crash C v (epoch-rows K n tape start) (rows-at-shape K n tape (start + 1)))
 
     -- under either header the predicted image is one that a cut could leave
     pub predicted-could-be-left : 0 < C → can-crash C v (predicted-image C tape start v)
-    predicted-could-be-left C⁺ = cut-could-leave-the-prophecy C C⁺ v (epoch-rows K n tape start) (flush-foretold tape start) (rows-at-shape K n tape (start + 1))
+    predicted-could-be-left C⁺ =
+        cut-could-leave-the-prophecy C C⁺ v (epoch-rows K n tape start) (flush-foretold tape start) (rows-at-shape K n tape (start + 1))
 
     module _ (addr : ℕ) (bytes : List ℕ) where
       -- the new write's row lies behind those before it
@@ -63,7 +66,7 @@ module _ (C : ℕ) (tape : List ℕ) (start : ℕ) where
       -- `write` of the original keeps to `can_result_from_write`, by the same tape
       pub foretold-of-a-write : can-result-from-write C (foretold C tape start (write v addr bytes)) (foretold C tape start v) addr bytes
       foretold-of-a-write =
-          subst⁻¹ (λ rows. can-result-from-write C (prophecy C (flush-foretold tape start) (write v addr bytes) rows) (foretold C tape start v) addr bytes) rows-with-the-new
+          rw rows-with-the-new
           (prophecy-of-a-write C (flush-foretold tape start) v addr bytes (epoch-rows K n tape start) new-row (rows-at-shape K n tape (start + 1) .row-for-each-write))
 
       -- "an accepted write changes it by the row's kept chunks (header 00) or whole (80)"
@@ -74,6 +77,8 @@ module _ (C : ℕ) (tape : List ℕ) (start : ℕ) where
           ∙ cut-of-a-write C v addr bytes (epoch-rows K n tape start) new-row (rows-at-shape K n tape (start + 1) .row-for-each-write)
           ∙ ap (λ x. apply-write-selective C x (new-write addr bytes) new-row) (sym (predicted-cut C tape start v e))
 
-      pub predicted-changes-whole : flush-foretold tape start ≡ true → predicted-image C tape start (write v addr bytes) ≡ update-bytes (predicted-image C tape start v) addr bytes
+      pub predicted-changes-whole : flush-foretold tape start ≡ true
+          → predicted-image C tape start (write v addr bytes) ≡ update-bytes (predicted-image C tape start v) addr bytes
       predicted-changes-whole e =
-          predicted-flush C tape start (write v addr bytes) e ∙ read-of-a-write v addr bytes ∙ ap (λ x. update-bytes x addr bytes) (sym (predicted-flush C tape start v e))
+          predicted-flush C tape start (write v addr bytes) e ∙ read-of-a-write v addr bytes
+          ∙ ap (λ x. update-bytes x addr bytes) (sym (predicted-flush C tape start v e))

@@ -1,5 +1,5 @@
--- Every future has a tape: whatever is to end each epoch and whatever rows its cut would keep, the tape of the packed rows tells exactly that, whatever bytes stand before and
--- behind. Assumes nothing.
+-- Every future has a tape: whatever is to end each epoch and whatever rows its cut would keep, the tape of the packed rows tells exactly that, whatever
+-- bytes stand before and behind. Assumes nothing.
 use Prim.Native.Nat.{ℕ, zero, suc, _+_, _*_, _^_, _<_}
 use native.Mathlib.Omega.{arith}
 use mathlib.Core.Path.{_≡_, refl, sym, ap, subst, _∙_}
@@ -23,14 +23,17 @@ module _ (K : ℕ) (e : Foreseen) (shaped : rows-of-width K e) where
   abbrev n : ℕ
   n = length (e .rows)
 
-  packed-right : are-bytes (packed K (e .rows)) × ((rows-at K n (packed K (e .rows)) 0 ≡ e .rows) × (rows-filled K n (packed K (e .rows)) 0 ≡ true) × (length (packed K (e .rows)) ≡ n * row-bytes K))
+  abbrev table : List ℕ
+  table = packed K (e .rows)
+
+  packed-right : are-bytes table × ((rows-at K n table 0 ≡ e .rows) × (rows-filled K n table 0 ≡ true) × (length table ≡ n * row-bytes K))
   packed-right =
       let right = packed-is-right K n (e .rows) shaped in
-      let parts = both (eqb (length (packed K (e .rows))) (n * row-bytes K)) (rows-filled K n (packed K (e .rows)) 0) (right .1) in
-      (right .0, (right .2, parts .1, eqb-true (length (packed K (e .rows))) (n * row-bytes K) (parts .0)))
+      let parts = both (eqb (length table) (n * row-bytes K)) (rows-filled K n table 0) (right .1) in
+      (right .0, (right .2, parts .1, eqb-true (length table) (n * row-bytes K) (parts .0)))
 
   pub bytes-of-epoch : are-bytes (epoch-bytes K e)
-  bytes-of-epoch = bytes-of-append (cond (e .flushing) flush-header cut-header ∷ []) (packed K (e .rows)) (one (e .flushing)) (packed-right .0)
+  bytes-of-epoch = bytes-of-append (cond (e .flushing) flush-header cut-header ∷ []) table (one (e .flushing)) (packed-right .0)
     where
       one : (b : Bool) (i : ℕ) → getD (cond b flush-header cut-header ∷ []) i 0 < 2 ^ byte-bits
       one true zero = lit< tt
@@ -44,14 +47,14 @@ module _ (K : ℕ) (e : Foreseen) (shaped : rows-of-width K e) where
     abbrev start : ℕ
     start = length before
 
-    behind-header : drop (start + 1) tape ≡ packed K (e .rows) ++ after
+    behind-header : drop (start + 1) tape ≡ table ++ after
     behind-header = drop-append-add before (epoch-bytes K e ++ after) 1
 
     header-is : header tape start ≡ cond (e .flushing) flush-header cut-header
-    header-is = getD-append-seam before (cond (e .flushing) flush-header cut-header) (packed K (e .rows) ++ after) 0
+    header-is = getD-append-seam before (cond (e .flushing) flush-header cut-header) (table ++ after) 0
 
     long : length tape ≡ start + 1 + n * row-bytes K + length after
-    long = omega (arith, length-append before (epoch-bytes K e ++ after), length-append (packed K (e .rows)) after, packed-right .1 .2)
+    long = omega (arith, length-append before (epoch-bytes K e ++ after), length-append table after, packed-right .1 .2)
 
     foretold-is : flush-foretold tape start ≡ e .flushing
     foretold-is = ap (λ (h : ℕ). eqb h flush-header) header-is ∙ by (e .flushing)
@@ -75,11 +78,15 @@ module _ (K : ℕ) (e : Foreseen) (shaped : rows-of-width K e) where
         record {
           right = epoch-good K n tape start (both-true headed (le-leb (row-place K start n) (length tape) (omega (arith, long)))) filled;
           header-tells = foretold-is;
-          rows-tell = sym (rows-of-part K tape (start + 1) n) ∙ ap (λ (t : List ℕ). rows-at K n t 0) behind-header ∙ rows-before K (packed K (e .rows)) after n 0 (omega (arith, packed-right .1 .2)) ∙ packed-right .1 .0;
+          rows-tell =
+              sym (rows-of-part K tape (start + 1) n) ∙ ap (λ (t : List ℕ). rows-at K n t 0) behind-header
+              ∙ rows-before K table after n 0 (omega (arith, packed-right .1 .2)) ∙ packed-right .1 .0;
         }
       where
         filled : rows-filled K n tape (start + 1) ≡ true
-        filled = sym (rows-filled-of-part K tape (start + 1) n) ∙ ap (λ (t : List ℕ). rows-filled K n t 0) behind-header ∙ rows-filled-before K (packed K (e .rows)) after n 0 (omega (arith, packed-right .1 .2)) ∙ packed-right .1 .1
+        filled =
+            sym (rows-filled-of-part K tape (start + 1) n) ∙ ap (λ (t : List ℕ). rows-filled K n t 0) behind-header
+            ∙ rows-filled-before K table after n 0 (omega (arith, packed-right .1 .2)) ∙ packed-right .1 .1
 
 module _ (K : ℕ) where
   bytes-of-tape : (es : List Foreseen) → AllOfWidth K es → are-bytes (tape-of K es)
@@ -92,7 +99,8 @@ module _ (K : ℕ) where
   tells-behind before [] none = nothing
   tells-behind before (e ∷ es) (more w ws) =
       let rest = tells-behind (before ++ epoch-bytes K e) es ws in
-      let place : length (before ++ epoch-bytes K e) ≡ row-place K (length before) (length (e .rows)) = omega (arith, length-append before (epoch-bytes K e), packed-right K e w .1 .2) in
+      let place : length (before ++ epoch-bytes K e) ≡ row-place K (length before) (length (e .rows))
+      = omega (arith, length-append before (epoch-bytes K e), packed-right K e w .1 .2) in
       next (epoch-tells K e w before (tape-of K es))
       (subst (λ (t : List ℕ). Tells K t (row-place K (length before) (length (e .rows))) es) (append-assoc before (epoch-bytes K e) (tape-of K es))
       (subst (λ (i : ℕ). Tells K ((before ++ epoch-bytes K e) ++ tape-of K es) i es) place rest))

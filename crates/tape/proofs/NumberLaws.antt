@@ -74,8 +74,8 @@ module _ {L : ℕ} {st : State} {tape : List ℕ} {start addr n : ℕ} where
       record { room = room-done L st addr n (parts .0); epoch = epoch-facts (parts .1) }
 
   -- the prediction with the write recorded
-  pub predictable-with : {log-length predicted-length : ℕ} → length (st .records) ≡ writes-limit → Sound L st log-length → predicted-length ≡ L → TapeRoom L st tape start addr n
-      → Predictable L (appended st addr n) log-length tape start predicted-length
+  pub predictable-with : {log-length predicted-length : ℕ} → length (st .records) ≡ writes-limit → Sound L st log-length → predicted-length ≡ L
+      → TapeRoom L st tape start addr n → Predictable L (appended st addr n) log-length tape start predicted-length
   predictable-with {log-length} sized s same r =
       let after = sound-of-appended L st log-length addr n sized s (r .room) in
       record {
@@ -98,7 +98,8 @@ module _ (L : ℕ) (st : State) (log-length predicted-length : ℕ) (flushing : 
   ending-unsound e = cond-unless (tape-sound L st log-length predicted-length) after-1 1 e
 
   module _ (good : tape-sound L st log-length predicted-length ≡ true) where
-    pub ending-bad-epoch : (why : Refusal) → epoch-number (K L) (st .count) tape start ≡ refusal-number why → ending-number flushing L st log-length tape start predicted-length ≡ refusal-number why
+    pub ending-bad-epoch : (why : Refusal) → epoch-number (K L) (st .count) tape start ≡ refusal-number why
+        → ending-number flushing L st log-length tape start predicted-length ≡ refusal-number why
     unfolding ending-number
     ending-bad-epoch why e = cond-when (tape-sound L st log-length predicted-length) after-1 1 good ∙ stop why _ e
 
@@ -106,10 +107,12 @@ module _ (L : ℕ) (st : State) (log-length predicted-length : ℕ) (flushing : 
     unfolding ending-number
     ending-by-header e = cond-when (tape-sound L st log-length predicted-length) after-1 1 good ∙ go-on e
 
-    pub ending-not-foretold : epoch-number (K L) (st .count) tape start ≡ 0 → as-foretold flushing tape start ≡ false → ending-number flushing L st log-length tape start predicted-length ≡ 11
+    pub ending-not-foretold : epoch-number (K L) (st .count) tape start ≡ 0 → as-foretold flushing tape start ≡ false
+        → ending-number flushing L st log-length tape start predicted-length ≡ 11
     ending-not-foretold e f = ending-by-header e ∙ cond-unless (as-foretold flushing tape start) 0 11 f
 
-    pub ending-foretold : epoch-number (K L) (st .count) tape start ≡ 0 → as-foretold flushing tape start ≡ true → ending-number flushing L st log-length tape start predicted-length ≡ 0
+    pub ending-foretold : epoch-number (K L) (st .count) tape start ≡ 0 → as-foretold flushing tape start ≡ true
+        → ending-number flushing L st log-length tape start predicted-length ≡ 0
     ending-foretold e f = ending-by-header e ∙ cond-when (as-foretold flushing tape start) 0 11 f
 
 -- what it means that the epoch may end so
@@ -131,17 +134,19 @@ module _ {L : ℕ} {st : State} {log-length predicted-length : ℕ} {flushing : 
 
   pub predictable-now : length (st .records) ≡ writes-limit → Ending L st log-length predicted-length flushing tape start
       → Predictable L st log-length tape start predicted-length
-  predictable-now sized e = record { short = e .facts .short; walk = all-remain L st log-length sized (e .facts); sized = e .same; rows = e .epoch .there .fits }
+  predictable-now sized e =
+      record { short = e .facts .short; walk = all-remain L st log-length sized (e .facts); sized = e .same; rows = e .epoch .there .fits }
 
 -- a write's number from its tests
 module _ (image : List ℕ) (st : State) (log tape : List ℕ) (start : ℕ) (predicted : List ℕ) (addr n : ℕ) where
   pub tape-write-unsound : tape-sound (length image) st (length log) (length predicted) ≡ false → tape-write-number image st log tape start predicted addr n ≡ 1
   unfolding tape-write-number
-  tape-write-unsound e = cond-unless (tape-sound (length image) st (length log) (length predicted)) (tape-room-number (length image) st tape start addr n) 1 e
+  tape-write-unsound e = cond-unless (tape-sound (length image) st (length log) (length predicted)) _ 1 e
 
-  pub tape-write-sound : tape-sound (length image) st (length log) (length predicted) ≡ true → tape-write-number image st log tape start predicted addr n ≡ tape-room-number (length image) st tape start addr n
+  pub tape-write-sound : tape-sound (length image) st (length log) (length predicted) ≡ true
+      → tape-write-number image st log tape start predicted addr n ≡ tape-room-number (length image) st tape start addr n
   unfolding tape-write-number
-  tape-write-sound e = cond-when (tape-sound (length image) st (length log) (length predicted)) (tape-room-number (length image) st tape start addr n) 1 e
+  tape-write-sound e = cond-when (tape-sound (length image) st (length log) (length predicted)) _ 1 e
 
 -- what a done write tells
 pub record TapeWritten (image : List ℕ) (st : State) (log tape : List ℕ) (start : ℕ) (predicted : List ℕ) (addr n : ℕ) : Type 0 where

@@ -1,5 +1,5 @@
 -- The predicted image is what the log's own replay leaves over a copy of the image. Assumes nothing.
-use Prim.Native.Nat.{ℕ, _+_, _≤_}
+use Prim.Native.Nat.{ℕ, _≤_}
 use mathlib.Core.Path.{_≡_, sym, ap, ap₂, _∙_}
 use mathlib.Core.Bool.{true, false}
 use mathlib.Core.List.{List}
@@ -7,7 +7,6 @@ use lib.ListN.{length}
 use Rattle.region.specs.Limits.{const-persistence-chunk-size}
 use Rattle.region.proofs.Booleans.{cond-when, cond-unless}
 use Rattle.replay.specs.AsyncSpec.{Write, AsyncView, size-to-chunks, committed, readable, flush-writes, flush-writes-selective, flush-selective}
-use Rattle.replay.specs.Rows.{rows-at}
 use Rattle.records.specs.State.{view}
 use Rattle.records.specs.Log.{last-writes}
 use Rattle.records.specs.declared.state.State.{State}
@@ -22,8 +21,12 @@ pub predicted-flush : (C : ℕ) (tape : List ℕ) (start : ℕ) (v : AsyncView) 
 predicted-flush C tape start v e = cond-when (flush-foretold tape start) (readable v) _ e
 
 pub predicted-cut : (C : ℕ) (tape : List ℕ) (start : ℕ) (v : AsyncView) → flush-foretold tape start ≡ false
-    → predicted-image C tape start v ≡ flush-selective C v (epoch-rows (size-to-chunks C (length (v .state-at-last-flush))) (length (v .outstanding-writes)) tape start)
+    → predicted-image C tape start v
+    ≡ flush-selective C v (epoch-rows (size-to-chunks C (length (v .state-at-last-flush))) (length (v .outstanding-writes)) tape start)
 predicted-cut C tape start v e = cond-unless (flush-foretold tape start) (readable v) _ e
+
+abbrev C : ℕ
+C = const-persistence-chunk-size
 
 -- the replay of the log over a copy w of the image
 module _ (image : List ℕ) (st : State) (log tape : List ℕ) (start : ℕ) {w : List ℕ} (same : w ≡ image) where
@@ -31,11 +34,13 @@ module _ (image : List ℕ) (st : State) (log tape : List ℕ) (start : ℕ) {w 
   walked = all-writes st log
 
   pub replayed-whole : flush-foretold tape start ≡ true → committed (flush-writes w (last-writes st (st .count) log 0)) ≡ predicted-now image st log tape start
-  replayed-whole e = ap₂ (λ (s : List ℕ) (ws : List Write). committed (flush-writes s ws)) same walked ∙ sym (predicted-flush const-persistence-chunk-size tape start (view image st log) e)
+  replayed-whole e = ap₂ (λ (s : List ℕ) (ws : List Write). committed (flush-writes s ws)) same walked ∙ sym (predicted-flush C tape start (view image st log) e)
 
   pub replayed-selected : st .count ≤ length (st .records) → flush-foretold tape start ≡ false
-      → flush-writes-selective const-persistence-chunk-size w (last-writes st (st .count) log 0) (rows-at (size-to-chunks const-persistence-chunk-size (length w)) (st .count) tape (start + 1)) ≡ predicted-now image st log tape start
+      → flush-writes-selective C w (last-writes st (st .count) log 0) (epoch-rows (size-to-chunks C (length w)) (st .count) tape start)
+      ≡ predicted-now image st log tape start
   replayed-selected few e =
-      ap₂ (λ (s : List ℕ) (ws : List Write). flush-writes-selective const-persistence-chunk-size s ws (rows-at (size-to-chunks const-persistence-chunk-size (length s)) (st .count) tape (start + 1))) same walked
-      ∙ ap (λ (n : ℕ). flush-selective const-persistence-chunk-size (view image st log) (rows-at (size-to-chunks const-persistence-chunk-size (length image)) n tape (start + 1))) (sym (writes-counted image st log few))
-      ∙ sym (predicted-cut const-persistence-chunk-size tape start (view image st log) e)
+      let v = view image st log in
+      ap₂ (λ (s : List ℕ) (ws : List Write). flush-writes-selective C s ws (epoch-rows (size-to-chunks C (length s)) (st .count) tape start)) same walked
+      ∙ ap (λ (n : ℕ). flush-selective C v (epoch-rows (size-to-chunks C (length image)) n tape start)) (sym (writes-counted image st log few))
+      ∙ sym (predicted-cut C tape start v e)

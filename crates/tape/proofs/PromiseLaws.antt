@@ -19,8 +19,10 @@ use Rattle.tape.specs.Flush.{tape-flush-number, TapeFlushes}
 use Rattle.tape.specs.Cut.{tape-cut-number, tape-kept, TapeCuts}
 
 module _ {image : List ℕ} {st : State} {log tape : List ℕ} {start : ℕ} {predicted : List ℕ} where
-  module _ {addr : ℕ} {bytes : List ℕ} {answer : Answer} (number : answer-number answer ≡ tape-write-number image st log tape start predicted addr (length bytes)) where
-    pub tape-writes-done : {st′ : State} {log′ predicted′ : List ℕ} → answer ≡ Done → st′ ≡ appended st addr (length bytes) → log′ ≡ log-with st log bytes → predicted′ ≡ predicted-with image st log tape start addr bytes
+  module _ {addr : ℕ} {bytes : List ℕ} {answer : Answer}
+      (number : answer-number answer ≡ tape-write-number image st log tape start predicted addr (length bytes)) where
+    pub tape-writes-done : {st′ : State} {log′ predicted′ : List ℕ} → answer ≡ Done
+        → st′ ≡ appended st addr (length bytes) → log′ ≡ log-with st log bytes → predicted′ ≡ predicted-with image st log tape start addr bytes
         → TapeWrites image st log tape start predicted addr bytes answer st′ log′ predicted′
     tape-writes-done e s l p =
         let none : tape-write-number image st log tape start predicted addr (length bytes) ≡ 0 = sym number ∙ ap answer-number e in
@@ -42,7 +44,8 @@ module _ {image : List ℕ} {st : State} {log tape : List ℕ} {start : ℕ} {pr
         }
 
   module _ {answer : Answer} (number : answer-number answer ≡ tape-flush-number image st log tape start predicted) where
-    pub tape-flushes-done : {st′ : State} {start′ : ℕ} {image′ predicted′ : List ℕ} → answer ≡ Done → st′ ≡ emptied st → start′ ≡ next-start (length image) st start → image′ ≡ readable (view image st log) → predicted′ ≡ readable (view image st log)
+    pub tape-flushes-done : {st′ : State} {start′ : ℕ} {image′ predicted′ : List ℕ} → answer ≡ Done
+        → st′ ≡ emptied st → start′ ≡ next-start (length image) st start → image′ ≡ readable (view image st log) → predicted′ ≡ readable (view image st log)
         → TapeFlushes image st log tape start predicted answer st′ start′ image′ predicted′
     tape-flushes-done e s a i p =
         let none : tape-flush-number image st log tape start predicted ≡ 0 = sym number ∙ ap answer-number e in
@@ -65,7 +68,8 @@ module _ {image : List ℕ} {st : State} {log tape : List ℕ} {start : ℕ} {pr
           predicted-after = refused-left why _ some;
         }
 
-  pub tape-cuts-done : {k : ℕ} {st′ : State} {start′ : ℕ} {image′ predicted′ : List ℕ} → tape-cut-number image st log tape start predicted ≡ 0 → k ≡ tape-kept image st log tape start → st′ ≡ emptied st → start′ ≡ next-start (length image) st start
+  pub tape-cuts-done : {k : ℕ} {st′ : State} {start′ : ℕ} {image′ predicted′ : List ℕ} → tape-cut-number image st log tape start predicted ≡ 0
+      → k ≡ tape-kept image st log tape start → st′ ≡ emptied st → start′ ≡ next-start (length image) st start
       → image′ ≡ predicted-now image st log tape start → predicted′ ≡ predicted-now image st log tape start
       → TapeCuts image st log tape start predicted (cut-answer.Kept k) st′ start′ image′ predicted′
   tape-cuts-done none kept s a i p =
@@ -77,7 +81,8 @@ module _ {image : List ℕ} {st : State} {log tape : List ℕ} {start : ℕ} {pr
         predicted-after = p ∙ done-changed _ none;
       }
 
-  pub tape-cuts-refused : (why : Refusal) → tape-cut-number image st log tape start predicted ≡ refusal-number why → TapeCuts image st log tape start predicted (cut-answer.Refused why) st start image predicted
+  pub tape-cuts-refused : (why : Refusal) → tape-cut-number image st log tape start predicted ≡ refusal-number why
+      → TapeCuts image st log tape start predicted (cut-answer.Refused why) st start image predicted
   tape-cuts-refused why some =
       record {
         answers = refused-told why (tape-kept image st log tape start) some;

@@ -1,5 +1,5 @@
--- What a step by tape does to the view and to the prediction, from the calls' promises: the form that a run of calls is made of. Each law takes a promise of a call that was
--- done. Assumes nothing.
+-- What a step by tape does to the view and to the prediction, from the calls' promises: the form that a run of calls is made of. Each law takes a
+-- promise of a call that was done. Assumes nothing.
 use Prim.Native.Nat.{ℕ, _≤_}
 use native.Mathlib.Omega.{arith}
 use mathlib.Core.Path.{_≡_, sym, ap, ap₂, subst⁻¹, _∙_}
@@ -40,7 +40,8 @@ module _ (image : List ℕ) (st : State) (log tape : List ℕ) (start : ℕ) (pr
     pub foretold-after : can-result-from-write C (foretold C tape start (view image st′ log′)) (foretold C tape start v) addr bytes
 
   pub step-of-write : {addr : ℕ} {bytes : List ℕ} {answer : Answer} {st′ : State} {log′ predicted′ : List ℕ}
-      → TapeWrites image st log tape start predicted addr bytes answer st′ log′ predicted′ → tape-write-number image st log tape start predicted addr (length bytes) ≡ 0
+      → TapeWrites image st log tape start predicted addr bytes answer st′ log′ predicted′
+      → tape-write-number image st log tape start predicted addr (length bytes) ≡ 0
       → StepOfWrite addr bytes st′ log′ predicted′
   step-of-write {addr} {bytes} {answer} {st′} {log′} {predicted′} p none =
       let told = tape-write-done none in
@@ -52,17 +53,21 @@ module _ (image : List ℕ) (st : State) (log tape : List ℕ) (start : ℕ) (pr
       record {
         view-after = after;
         predicted-after = changed _ (p .predicted-after) none ∙ ap (predicted-image C tape start) whole;
-        foretold-after = subst⁻¹ (λ w. can-result-from-write C (foretold C tape start w) (foretold C tape start v) addr bytes) after (foretold-of-a-write C tape start v addr bytes);
+        foretold-after =
+            subst⁻¹ (λ w. can-result-from-write C (foretold C tape start w) (foretold C tape start v) addr bytes) after
+            (foretold-of-a-write C tape start v addr bytes);
       }
 
-  -- an ending: the image is the predicted one, the log is empty, the start lies behind the epoch's rows, and in the next epoch the image itself is predicted
+  -- an ending: the image is the predicted one, the log is empty, the start lies behind the epoch's rows, and in the next epoch the image itself is
+  -- predicted
   pub record StepOfEnding (st′ : State) (start′ : ℕ) (image′ predicted′ : List ℕ) : Type 0 where
     pub view-after : view image′ st′ log ≡ record { state-at-last-flush = predicted-image C tape start v; outstanding-writes = [] }
     pub image-after : image′ ≡ predicted-image C tape start v
     pub start-after : start′ ≡ row-place (chunks C v) start (length (v .outstanding-writes))
     pub predicted-after : predicted′ ≡ predicted-image C tape start′ (view image′ st′ log)
 
-  ended : {st′ : State} {start′ : ℕ} {image′ predicted′ : List ℕ} → st .count ≤ writes-limit → st′ ≡ emptied st → start′ ≡ next-start (length image) st start → image′ ≡ predicted-image C tape start v → predicted′ ≡ predicted-image C tape start v
+  ended : {st′ : State} {start′ : ℕ} {image′ predicted′ : List ℕ} → st .count ≤ writes-limit
+      → st′ ≡ emptied st → start′ ≡ next-start (length image) st start → image′ ≡ predicted-image C tape start v → predicted′ ≡ predicted-image C tape start v
       → StepOfEnding st′ start′ image′ predicted′
   ended {st′} {start′} {image′} few s a i p =
       let after : view image′ st′ log ≡ record { state-at-last-flush = predicted-image C tape start v; outstanding-writes = [] }
@@ -86,7 +91,8 @@ module _ (image : List ℕ) (st : State) (log tape : List ℕ) (start : ℕ) (pr
   step-of-flush {answer} {st′} {start′} {image′} {predicted′} p none =
       let told = ending-done none in
       let read : predicted-image C tape start v ≡ readable v = predicted-flush C tape start v (told .foretold) in
-      let end = ended (told .facts .few) (changed _ (p .state-after) none) (changed _ (p .start-after) none) (changed _ (p .image-after) none ∙ sym read) (changed _ (p .predicted-after) none ∙ sym read) in
+      let end = ended (told .facts .few) (changed _ (p .state-after) none) (changed _ (p .start-after) none)
+      (changed _ (p .image-after) none ∙ sym read) (changed _ (p .predicted-after) none ∙ sym read) in
       record {
         was-predicted = foretold-flush-is-predicted C tape start v (told .foretold);
         flushed = end .view-after ∙ ap (λ x. record { state-at-last-flush = x; outstanding-writes = [] }) read ∙ sym (flush-leaves-the-read-image v);
@@ -105,6 +111,6 @@ module _ (image : List ℕ) (st : State) (log tape : List ℕ) (start : ℕ) (pr
       let told = ending-done none in
       let i : image′ ≡ predicted-image C tape start v = changed _ (p .image-after) none in
       record {
-        crashed = subst⁻¹ (λ x. can-crash-as C v x (epoch-rows (chunks C v) (length (v .outstanding-writes)) tape start)) i (foretold-cut-is-a-crash C tape start v (told .foretold));
+        crashed = rw i (foretold-cut-is-a-crash C tape start v (told .foretold));
         ending = ended (told .facts .few) (changed _ (p .state-after) none) (changed _ (p .start-after) none) i (changed _ (p .predicted-after) none);
       }
