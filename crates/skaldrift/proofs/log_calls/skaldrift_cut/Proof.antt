@@ -1,60 +1,26 @@
 -- `skaldrift_cut` meets its contract: words of another number are refused before anything is touched, and the others are a state, at which the cut keeps its promise.
 -- Assumes nothing.
-use Rattle.linked.proofs.LogLaws.{cut-wrong, cut-right}
 use borrow.Author.Needs.{needs}
+use Rattle.linked.proofs.LogLaws.{cut-wrong, cut-right}
 use Rattle.skaldrift.proofs.log_calls.skaldrift_cut.Statement.{statement}
 use Rattle.skaldrift.proofs.log_calls.skaldrift_cut.Tie as tie
-use Rattle.skaldrift.proofs.log_calls.skaldrift_cut.Reads as reads
-use Rattle.skaldrift.proofs.log_calls.skaldrift_cut.Lts as lts
-use Rattle.region.proofs.numbers.refusal_number.Reads as refusal-number-reads
-use Rattle.words.proofs.reports.cut_number.Reads as cut-number-reads
-use Rattle.words.proofs.state_words.loaded.Reads as loaded-reads
-use Rattle.words.proofs.state_words.stored.Reads as stored-reads
-use Rattle.writelog.proofs.cut.cut.Reads as cut-reads
 
-refusal-number-requires : tie.Need-refusal-number-requires
-refusal-number-requires c κs = search needs
+wrong-words : tie.Need-returns
+wrong-words c = cut-wrong _ _ _ _ _ (c .before .if1 .taken) (c .refusal-number .ensures)
 
-returns : tie.Need-returns
-returns c = let a = c .before .before .before .before .before .before .args in
-    cut-wrong (a .state .now) (a .image .now) (a .log .now) (a .rows .now) (a .report .now) (c .before .if1 .taken) (c .refusal-number .ensures)
-
-loaded-requires : tie.Need-loaded-requires
-loaded-requires c κs = search needs
-
-cut-requires : tie.Need-cut-requires
-cut-requires c κs = search needs
-
-stored-requires : tie.Need-stored-requires
-stored-requires c κs = search needs
-
-cut-number-requires : tie.Need-cut-number-requires
-cut-number-requires c κs = search needs
-
-same-length : tie.Need-same-length
-same-length c = search needs
-
-same-length-2 : tie.Need-same-length-2
-same-length-2 c = search needs
-
-returns-2 : tie.Need-returns-2
-returns-2 c = let at-stored = c .before .before .before .before in
+right-words : tie.Need-returns-2
+right-words c =
+    let at-stored = c .before .before .before .before in
     let at-cut = at-stored .before .before .before .before in
     let at-loaded = at-cut .before .before in
     let at-test = at-loaded .before .before in
-    let a = at-test .before .before .before .before .before .args in
-    cut-right (a .state .now) (a .image .now) (a .log .now) (a .rows .now) (a .report .now) (at-test .if1 .left) (at-loaded .loaded .ensures) (at-cut .cut .ensures) (at-stored .stored .ensures) (c .cut-number .ensures .0) (c .cut-number .ensures .1)
+    cut-right _ _ _ _ _ (at-test .if1 .left)
+    (at-loaded .loaded .ensures) (at-cut .cut .ensures) (at-stored .stored .ensures) (c .cut-number .ensures .0) (c .cut-number .ensures .1)
 
 pub skaldrift-cut-spec : {M : Type 1} → statement M
 skaldrift-cut-spec =
     tie.close
     (tie.spec
-    refusal-number-requires
-    returns
-    loaded-requires
-    cut-requires
-    stored-requires
-    cut-number-requires
-    same-length
-    same-length-2
-    returns-2)
+    (λ c κs. search needs) wrong-words
+    (λ c κs. search needs) (λ c κs. search needs) (λ c κs. search needs) (λ c κs. search needs)
+    (λ c. search needs) (λ c. search needs) right-words)
