@@ -3,6 +3,7 @@
 // the definitions (proofs/Starred.antt). Assumed: only the C functions that print.
 mod gate_trials;
 mod log_trials;
+mod long_sheets;
 mod print;
 mod tape_trials;
 
