@@ -1,7 +1,6 @@
 // Answers that report a number, as they cross: document 01's number returned, and n, m or kept written
 // to `report` only where document 01 reports one.
 use gate::Verdict;
-use region::Refusal;
 use region::numbers::refusal_number;
 use writelog::cut::CutAnswer;
 ghost use mathlib.Core.Path.{_≡_};
