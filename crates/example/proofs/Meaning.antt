@@ -15,9 +15,8 @@ use Rattle.example.specs.Setup.{setup-number, SetsUp}
 use Rattle.example.specs.Run.{run-number, run-answer-number, if-any-round, last-writes, Runs}
 use Rattle.example.specs.declared.RunAnswer.{RunAnswer}
 use Rattle.example.specs.declared.RunAnswer.the-variants.{Done}
-use Rattle.example.proofs.NumberLaws.{Fit, run-good, setup-done-lies}
+use Rattle.example.proofs.NumberLaws.{run-answers-by-number, setup-done-lies, Fit, run-good}
 use Rattle.example.proofs.StepLaws.{first-value, set-valid, valid-lies}
-use Rattle.example.proofs.Pins.{run-answers-by-number}
 
 -- `setup` of the source: the image that it leaves is valid, whatever the other value
 pub set-up-is-valid : (image : List ℕ) (addr val0 : ℕ) {answer : Answer} {image′ : List ℕ} → SetsUp image addr val0 answer image′ → answer ≡ answers.Done

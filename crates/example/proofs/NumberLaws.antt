@@ -1,4 +1,5 @@
--- Which of a call's tests gives its number, what number 0 tells, and the promise of a done call and of a refused one. Assumes nothing.
+-- Which of a call's tests gives its number, what number 0 tells, and the promise of a done call and of a refused one; and that a number settles the answer
+-- of a run. Assumes nothing.
 use Prim.Native.Nat.{ℕ, _+_, _≤_, _<_}
 use native.Mathlib.Omega.{arith}
 use mathlib.Core.Path.{_≡_, refl, sym, ap, _∙_}
@@ -11,12 +12,14 @@ use Rattle.region.specs.Limits.{image-limit, log-limit}
 use Rattle.region.specs.Answer.{unless, answer-number, refusal-number}
 use Rattle.region.specs.declared.Answer.{Answer}
 use Rattle.region.specs.declared.Refusal.{Refusal}
+use Rattle.region.specs.declared.Refusal.the-variants.{BadState, OutOfRange, TooManyWrites, TooManyBytes, BadSheet, BrokenImage, TooManyPoints, BadRows, BadTape, NotPredicted, TooManyRounds}
 use Rattle.region.specs.declared.Answer.the-variants as answers
-use Rattle.region.proofs.AnswerLaws.{done-changed, refused-left, refusal-not-done, passed}
+use Rattle.region.proofs.AnswerLaws.{refusals-by-number, done-changed, refused-left, refusal-not-done, passed}
 use Rattle.region.proofs.Booleans.{both, cond-when, cond-unless}
 use Rattle.records.specs.declared.state.State.{State}
 use Rattle.sheet.specs.Sheet.{well-formed, obeys}
 use Rattle.gate.specs.Opening.{open-number, Opens}
+use Rattle.gate.specs.Judgement.{denied-number}
 use Rattle.gate.proofs.OpeningLaws.{open-good, open-broken}
 use Rattle.gate.proofs.Gives.{opens-means, opened-fresh}
 use Rattle.example.specs.Valid.{valid}
@@ -24,7 +27,19 @@ use Rattle.example.specs.Setup.{setup-number, SetsUp}
 use Rattle.example.specs.Run.{rounds-limit, run-number, run-answer-number, Runs}
 use Rattle.example.specs.Steps.{fits-number, Under, Repeats}
 use Rattle.example.specs.declared.RunAnswer.{RunAnswer}
-use Rattle.example.specs.declared.RunAnswer.the-variants.{Refused}
+use Rattle.example.specs.declared.RunAnswer.the-variants.{Done, Refused, Denied}
+
+-- the number of a run's answer settles it
+pub run-answers-by-number : (a b : RunAnswer) → run-answer-number a ≡ run-answer-number b → a ≡ b
+run-answers-by-number Done Done e = refl
+run-answers-by-number Done (Refused why) e = absurd (omega (arith, refusal-not-done why))
+run-answers-by-number Done Denied e = absurd (omega arith)
+run-answers-by-number (Refused why) Done e = absurd (omega (arith, refusal-not-done why))
+run-answers-by-number (Refused why) (Refused reason) e = ap Refused (refusals-by-number why reason e)
+run-answers-by-number (Refused why) Denied e = absurd (denial-is-no-refusal why e)
+run-answers-by-number Denied Done e = absurd (omega arith)
+run-answers-by-number Denied (Refused why) e = absurd (denial-is-no-refusal why (sym e))
+run-answers-by-number Denied Denied e = refl
 
 -- setup
 module _ (image : List ℕ) (addr val0 : ℕ) where

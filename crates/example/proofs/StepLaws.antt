@@ -40,7 +40,7 @@ use Rattle.example.specs.Steps.{Idle, Under, Goes, Repeats}
 use Rattle.example.specs.Run.{run-answer-number, if-any-round, last-writes}
 use Rattle.example.specs.declared.RunAnswer.{RunAnswer}
 use Rattle.example.specs.declared.RunAnswer.the-variants.{Done}
-use Rattle.example.proofs.Pins.{run-answers-by-number}
+use Rattle.example.proofs.NumberLaws.{run-answers-by-number}
 use Rattle.example.proofs.ByteLog.{byte-laid, byte-writes, byte-log, byte-writes-last, byte-points, last-read, all-of, left-valid, cut-leaves-a-value}
 
 -- the state and the log buffer hold these values, written at addr

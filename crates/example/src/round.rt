@@ -1,12 +1,9 @@
 // A round of the example: two pairs of writes through the gate, each pair flushed.
 use crate::RunAnswer;
 use gate::Verdict;
-use gate::gate::Gated;
 use gate::gate::gate;
-use records::state::Record;
 use records::state::State;
 use region::Answer;
-use writelog::flush::Flushed;
 use writelog::flush::flush;
 ghost use mathlib.Core.Path.{_≡_};
 ghost use Rattle.region.specs.Answer.{answer-number};

@@ -2,12 +2,9 @@
 use crate::ROUNDS_LIMIT;
 use crate::RunAnswer;
 use crate::app_sheet::app_sheet;
-use crate::round::Stepped;
 use crate::round::round;
-use gate::open::Opened;
 use gate::open::fresh;
 use gate::open::open;
-use records::state::Record;
 use records::state::State;
 use region::Answer;
 use region::IMAGE_LIMIT;
@@ -55,16 +52,16 @@ fn repeat(
     requires { ⌜ Under (now image) state (now log) (now sheet) (now work) addr val0 val1 ⌝ }
     ensures { λ r. ⌜ Repeats (now (image .entry)) (now (log .entry)) (now (work .entry)) addr val0 val1 rounds r (now (image .exit)) (now (log .exit)) (now (work .exit)) ⌝ }
 {
-    let mut at = state;
+    let mut current = state;
     let mut done = 0;
     while done < rounds {
-        let stepped = round(at, image, log, sheet, work, addr, val0, val1);
+        let stepped = round(current, image, log, sheet, work, addr, val0, val1);
         let answer = stepped.answer;
         let RunAnswer::Done = answer else {
             return answer;
         };
         let next = stepped.state;
-        at = next;
+        current = next;
         done += 1;
     }
     RunAnswer::Done

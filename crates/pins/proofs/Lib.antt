@@ -4,4 +4,5 @@ pub mod Region
 pub mod Writelog
 pub mod Gate
 pub mod Tape
+pub mod Example
 pub mod Skaldrift
