@@ -1,160 +1,139 @@
 // Opening, the judging call and the gate. Made by peer/src/bin/sample.rs.
-use crate::fill::with_bytes;
-use crate::fill::with_words;
-use crate::print::bytes;
+use crate::fill::log;
+use crate::fill::state;
+use crate::print::end;
+use crate::print::log_bytes;
 use crate::print::number;
-use crate::print::text;
-use crate::print::words;
+use crate::print::report_number;
+use crate::print::state_words;
+use crate::print::work_bytes;
 use skaldrift::gate_calls::skaldrift_gate;
 use skaldrift::gate_calls::skaldrift_judge;
 use skaldrift::gate_calls::skaldrift_open;
 
+fn open(mut state: [u64; 65], image: &[u8], log: [u8; 1024], sheet: &[u8]) {
+    let answer = skaldrift_open(&mut state, image, &log, sheet);
+    number(b"open", answer);
+    state_words(&state);
+    end();
+}
+
 fn open_0() {
-    let mut state = [0u64; 65];
-    with_words(&mut state, &[34]);
-    let log = [0u8; 1024];
-    let answer = skaldrift_open(
-        &mut state,
+    open(
+        state(&[34]),
         &[1, 0, 0, 1, 1, 1, 0, 1, 0, 0, 0, 0, 0, 0, 1, 1, 1, 1],
-        &log,
+        log(&[]),
         &[20, 0, 20, 0, 20],
     );
-    text(b"open");
-    number(answer);
-    text(b" state");
-    words(&state);
-    text(b"\n");
 }
 
 fn open_6() {
-    let mut state = [0u64; 65];
-    with_words(&mut state, &[1]);
-    let log = [0u8; 1024];
-    let answer = skaldrift_open(&mut state, &[], &log, &[28, 32, 0, 0, 0, 12, 0, 0, 0, 0]);
-    text(b"open");
-    number(answer);
-    text(b" state");
-    words(&state);
-    text(b"\n");
+    open(
+        state(&[1]),
+        &[],
+        log(&[]),
+        &[28, 32, 0, 0, 0, 12, 0, 0, 0, 0],
+    );
+}
+
+fn judge(
+    state: [u64; 65],
+    image: &[u8],
+    log: [u8; 1024],
+    sheet: &[u8],
+    work: &mut [u8],
+    addr: u64,
+    data: &[u8],
+    mut report: u64,
+) {
+    let answer = skaldrift_judge(&state, image, &log, sheet, work, addr, data, &mut report);
+    number(b"judge", answer);
+    work_bytes(work);
+    report_number(report);
+    end();
 }
 
 fn judge_0() {
-    let state = [0u64; 65];
-    let log = [0u8; 1024];
-    let mut work = [0u8; 18];
-    with_bytes(
-        &mut work,
-        &[0, 1, 1, 1, 1, 0, 0, 1, 1, 1, 0, 0, 0, 1, 1, 0, 1],
-    );
-    let mut report = 16045481050594344959;
-    let answer = skaldrift_judge(
-        &state,
-        &[0, 0, 0, 0, 0, 0, 0, 0, 0, 0, 0, 0, 0, 0, 0, 0, 0, 0],
-        &log,
+    judge(
+        state(&[]),
+        &[0; 18],
+        log(&[]),
         &[24, 0],
-        &mut work,
+        &mut [0, 1, 1, 1, 1, 0, 0, 1, 1, 1, 0, 0, 0, 1, 1, 0, 1, 0],
         14,
         &[1, 0, 0],
-        &mut report,
+        16045481050594344959,
     );
-    text(b"judge");
-    number(answer);
-    text(b" work");
-    bytes(&work);
-    text(b" report");
-    number(report);
-    text(b"\n");
 }
 
 fn judge_8() {
-    let mut state = [0u64; 65];
-    with_words(&mut state, &[2, 1, 0, 1]);
-    let log = [0u8; 1024];
-    let mut work = [0u8; 1];
-    with_bytes(&mut work, &[49]);
-    let mut report = 16045481050594344959;
-    let answer = skaldrift_judge(
-        &state,
+    judge(
+        state(&[2, 1, 0, 1]),
         &[1],
-        &log,
+        log(&[]),
         &[16, 0, 0, 4, 4],
-        &mut work,
+        &mut [49],
         0,
         &[0],
+        16045481050594344959,
+    );
+}
+
+fn gate(
+    mut state: [u64; 65],
+    image: &[u8],
+    mut log: [u8; 1024],
+    sheet: &[u8],
+    work: &mut [u8],
+    addr: u64,
+    data: &[u8],
+    mut report: u64,
+) {
+    let answer = skaldrift_gate(
+        &mut state,
+        image,
+        &mut log,
+        sheet,
+        work,
+        addr,
+        data,
         &mut report,
     );
-    text(b"judge");
-    number(answer);
-    text(b" work");
-    bytes(&work);
-    text(b" report");
-    number(report);
-    text(b"\n");
+    number(b"gate", answer);
+    state_words(&state);
+    log_bytes(&log);
+    work_bytes(work);
+    report_number(report);
+    end();
 }
 
 fn gate_0() {
-    let mut state = [0u64; 65];
-    with_words(&mut state, &[4, 1, 1, 0, 0, 1, 1, 2]);
-    let mut log = [0u8; 1024];
-    with_bytes(&mut log, &[1, 1]);
-    let mut work = [0u8; 2];
-    with_bytes(&mut work, &[0, 1]);
-    let mut report = 16045481050594344959;
-    let answer = skaldrift_gate(
-        &mut state,
+    gate(
+        state(&[4, 1, 1, 0, 0, 1, 1, 2]),
         &[158, 114],
-        &mut log,
+        log(&[1, 1]),
         &[20, 0, 0, 0, 0],
-        &mut work,
+        &mut [0, 1],
         1,
         &[3],
-        &mut report,
+        16045481050594344959,
     );
-    text(b"gate");
-    number(answer);
-    text(b" state");
-    words(&state);
-    text(b" log");
-    bytes(&log);
-    text(b" work");
-    bytes(&work);
-    text(b" report");
-    number(report);
-    text(b"\n");
 }
 
 fn gate_8() {
-    let mut state = [0u64; 65];
-    with_words(&mut state, &[1, 1, 1]);
-    let mut log = [0u8; 1024];
-    with_bytes(&mut log, &[1]);
-    let mut work = [0u8; 2];
-    with_bytes(&mut work, &[1]);
-    let mut report = 16045481050594344959;
-    let answer = skaldrift_gate(
-        &mut state,
+    gate(
+        state(&[1, 1, 1]),
         &[1, 0],
-        &mut log,
+        log(&[1]),
         &[16, 0, 0, 4, 12],
-        &mut work,
+        &mut [1, 0],
         0,
         &[0],
-        &mut report,
+        16045481050594344959,
     );
-    text(b"gate");
-    number(answer);
-    text(b" state");
-    words(&state);
-    text(b" log");
-    bytes(&log);
-    text(b" work");
-    bytes(&work);
-    text(b" report");
-    number(report);
-    text(b"\n");
 }
 
-pub fn run() {
+pub fn replay() {
     open_0();
     open_6();
     judge_0();

@@ -9,8 +9,8 @@ mod print;
 mod tape_sample;
 
 fn main() {
-    log_sample::run();
-    gate_sample::run();
-    tape_sample::run();
-    example_sample::run();
+    log_sample::replay();
+    gate_sample::replay();
+    tape_sample::replay();
+    example_sample::replay();
 }

@@ -1,194 +1,162 @@
 // Write, flush and cut by tape. Made by peer/src/bin/sample.rs.
-use crate::fill::with_bytes;
-use crate::fill::with_words;
-use crate::print::bytes;
+use crate::fill::log;
+use crate::fill::state;
+use crate::print::end;
+use crate::print::image_bytes;
+use crate::print::log_bytes;
 use crate::print::number;
-use crate::print::text;
-use crate::print::words;
+use crate::print::predicted_bytes;
+use crate::print::report_number;
+use crate::print::start_number;
+use crate::print::state_words;
 use skaldrift::tape_calls::skaldrift_tape_cut;
 use skaldrift::tape_calls::skaldrift_tape_flush;
 use skaldrift::tape_calls::skaldrift_tape_write;
 
-fn tape_write_0() {
-    let mut state = [0u64; 65];
-    with_words(&mut state, &[2, 0, 2, 2]);
-    let mut log = [0u8; 1024];
-    let mut predicted = [0u8; 2];
-    with_bytes(&mut predicted, &[3, 2]);
+fn tape_write(
+    mut state: [u64; 65],
+    image: &[u8],
+    mut log: [u8; 1024],
+    tape: &[u8],
+    start: u64,
+    predicted: &mut [u8],
+    addr: u64,
+    data: &[u8],
+) {
     let answer = skaldrift_tape_write(
         &mut state,
-        &[0, 0],
+        image,
         &mut log,
+        tape,
+        start,
+        predicted,
+        addr,
+        data,
+    );
+    number(b"tape_write", answer);
+    state_words(&state);
+    log_bytes(&log);
+    predicted_bytes(predicted);
+    end();
+}
+
+fn tape_write_0() {
+    tape_write(
+        state(&[2, 0, 2, 2]),
+        &[0, 0],
+        log(&[]),
         &[0, 0, 0, 0],
         0,
-        &mut predicted,
+        &mut [3, 2],
         0,
         &[63, 250],
     );
-    text(b"tape_write");
-    number(answer);
-    text(b" state");
-    words(&state);
-    text(b" log");
-    bytes(&log);
-    text(b" predicted");
-    bytes(&predicted);
-    text(b"\n");
 }
 
 fn tape_write_9() {
-    let mut state = [0u64; 65];
-    with_words(&mut state, &[2]);
-    let mut log = [0u8; 1024];
-    let mut predicted = [0u8; 1];
-    let answer = skaldrift_tape_write(
-        &mut state,
+    tape_write(
+        state(&[2]),
         &[0],
-        &mut log,
+        log(&[]),
         &[0, 0, 1, 1, 1, 1, 1, 0, 1, 0],
         0,
-        &mut predicted,
+        &mut [0],
         0,
         &[],
     );
-    text(b"tape_write");
-    number(answer);
-    text(b" state");
-    words(&state);
-    text(b" log");
-    bytes(&log);
-    text(b" predicted");
-    bytes(&predicted);
-    text(b"\n");
+}
+
+fn tape_flush(
+    mut state: [u64; 65],
+    image: &mut [u8],
+    log: [u8; 1024],
+    tape: &[u8],
+    mut start: u64,
+    predicted: &mut [u8],
+) {
+    let answer = skaldrift_tape_flush(&mut state, image, &log, tape, &mut start, predicted);
+    number(b"tape_flush", answer);
+    state_words(&state);
+    image_bytes(image);
+    start_number(start);
+    predicted_bytes(predicted);
+    end();
 }
 
 fn tape_flush_0() {
-    let mut state = [0u64; 65];
-    with_words(&mut state, &[3, 4, 3, 6, 1, 7]);
-    let mut image = [0u8; 7];
-    with_bytes(&mut image, &[189, 148, 251, 194, 103, 225, 167]);
-    let mut log = [0u8; 1024];
-    with_bytes(&mut log, &[2, 0, 1]);
-    let mut start = 0;
-    let mut predicted = [0u8; 7];
-    with_bytes(&mut predicted, &[0, 1, 0, 1, 0, 1]);
-    let answer = skaldrift_tape_flush(
-        &mut state,
-        &mut image,
-        &log,
+    tape_flush(
+        state(&[3, 4, 3, 6, 1, 7]),
+        &mut [189, 148, 251, 194, 103, 225, 167],
+        log(&[2, 0, 1]),
         &[128, 0, 0, 0, 0],
-        &mut start,
-        &mut predicted,
+        0,
+        &mut [0, 1, 0, 1, 0, 1, 0],
     );
-    text(b"tape_flush");
-    number(answer);
-    text(b" state");
-    words(&state);
-    text(b" image");
-    bytes(&image);
-    text(b" start");
-    number(start);
-    text(b" predicted");
-    bytes(&predicted);
-    text(b"\n");
 }
 
 fn tape_flush_11() {
-    let mut state = [0u64; 65];
-    with_words(&mut state, &[1, 1, 4]);
-    let mut image = [0u8; 9];
-    let log = [0u8; 1024];
-    let mut start = 0;
-    let mut predicted = [0u8; 9];
-    with_bytes(&mut predicted, &[1, 0, 0, 0, 1, 1, 1, 1]);
-    let answer = skaldrift_tape_flush(
-        &mut state,
-        &mut image,
-        &log,
+    tape_flush(
+        state(&[1, 1, 4]),
+        &mut [0; 9],
+        log(&[]),
         &[0, 0],
-        &mut start,
-        &mut predicted,
+        0,
+        &mut [1, 0, 0, 0, 1, 1, 1, 1, 0],
     );
-    text(b"tape_flush");
-    number(answer);
-    text(b" state");
-    words(&state);
-    text(b" image");
-    bytes(&image);
-    text(b" start");
-    number(start);
-    text(b" predicted");
-    bytes(&predicted);
-    text(b"\n");
+}
+
+fn tape_cut(
+    mut state: [u64; 65],
+    image: &mut [u8],
+    log: [u8; 1024],
+    tape: &[u8],
+    mut start: u64,
+    predicted: &mut [u8],
+    mut report: u64,
+) {
+    let answer = skaldrift_tape_cut(
+        &mut state,
+        image,
+        &log,
+        tape,
+        &mut start,
+        predicted,
+        &mut report,
+    );
+    number(b"tape_cut", answer);
+    state_words(&state);
+    image_bytes(image);
+    start_number(start);
+    predicted_bytes(predicted);
+    report_number(report);
+    end();
 }
 
 fn tape_cut_0() {
-    let mut state = [0u64; 65];
-    with_words(&mut state, &[2, 1, 0, 0, 1]);
-    let mut image = [0u8; 1];
-    let log = [0u8; 1024];
-    let mut start = 1;
-    let mut predicted = [0u8; 1];
-    with_bytes(&mut predicted, &[1]);
-    let mut report = 16045481050594344959;
-    let answer = skaldrift_tape_cut(
-        &mut state,
-        &mut image,
-        &log,
+    tape_cut(
+        state(&[2, 1, 0, 0, 1]),
+        &mut [0],
+        log(&[]),
         &[1, 0, 0, 128],
-        &mut start,
-        &mut predicted,
-        &mut report,
+        1,
+        &mut [1],
+        16045481050594344959,
     );
-    text(b"tape_cut");
-    number(answer);
-    text(b" state");
-    words(&state);
-    text(b" image");
-    bytes(&image);
-    text(b" start");
-    number(start);
-    text(b" predicted");
-    bytes(&predicted);
-    text(b" report");
-    number(report);
-    text(b"\n");
 }
 
 fn tape_cut_11() {
-    let mut state = [0u64; 65];
-    with_words(&mut state, &[3, 15, 0, 4, 1, 15]);
-    let mut image = [0u8; 15];
-    let mut log = [0u8; 1024];
-    with_bytes(&mut log, &[1]);
-    let mut start = 5;
-    let mut predicted = [0u8; 15];
-    let mut report = 16045481050594344959;
-    let answer = skaldrift_tape_cut(
-        &mut state,
-        &mut image,
-        &log,
+    tape_cut(
+        state(&[3, 15, 0, 4, 1, 15]),
+        &mut [0; 15],
+        log(&[1]),
         &[0, 0, 0, 0, 0, 128, 128, 64, 0],
-        &mut start,
-        &mut predicted,
-        &mut report,
+        5,
+        &mut [0; 15],
+        16045481050594344959,
     );
-    text(b"tape_cut");
-    number(answer);
-    text(b" state");
-    words(&state);
-    text(b" image");
-    bytes(&image);
-    text(b" start");
-    number(start);
-    text(b" predicted");
-    bytes(&predicted);
-    text(b" report");
-    number(report);
-    text(b"\n");
 }
 
-pub fn run() {
+pub fn replay() {
     tape_write_0();
     tape_write_9();
     tape_flush_0();

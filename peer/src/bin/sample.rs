@@ -21,16 +21,24 @@ const PATIENCE: usize = 200;
 const FEW_PLACES: usize = 24;
 const MOST_ROUNDS: u64 = 3;
 const MOST_LOG_BYTES: usize = 16;
-const LONGEST_LITERAL: usize = 32;
+/// A buffer of more zeros than these is written by its length.
+const MOST_ZEROS: usize = 8;
+const STATE_WORDS: usize = 65;
+const LOG_BYTES: usize = 1024;
 
 /// What the program's own functions give.
-const PARTS: [(&str, &str); 6] = [
-    ("fill", "with_bytes"),
-    ("fill", "with_words"),
-    ("print", "bytes"),
+const PARTS: [(&str, &str); 11] = [
+    ("fill", "log"),
+    ("fill", "state"),
+    ("print", "end"),
+    ("print", "image_bytes"),
+    ("print", "log_bytes"),
     ("print", "number"),
-    ("print", "text"),
-    ("print", "words"),
+    ("print", "predicted_bytes"),
+    ("print", "report_number"),
+    ("print", "start_number"),
+    ("print", "state_words"),
+    ("print", "work_bytes"),
 ];
 
 struct File {
@@ -89,23 +97,39 @@ fn put(path: &str, text: &str) {
 }
 
 fn program(rng: &mut Rng, file: &File, answers: &mut String) -> String {
-    let (mut functions, mut run) = (String::new(), String::new());
+    let (mut functions, mut replay) = (String::new(), String::new());
     for call in file.calls {
         let numbers = call.numbers();
-        for number in [numbers.first(), numbers.last()].into_iter().flatten() {
-            let case = small_case(rng, *call, *number);
-            let _ = writeln!(run, "    {}_{number}();", call.name());
-            functions.push_str(&function(&case, *number));
-            answers.push_str(&answer(&case));
+        let ends = [numbers.first(), numbers.last()].into_iter().flatten().copied();
+        let cases: Vec<(u64, Case)> =
+            ends.map(|number| (number, small_case(rng, *call, number))).collect();
+        let whole = whole(&cases);
+        functions.push_str(&calling(*call, &whole));
+        for (number, case) in &cases {
+            let _ = writeln!(replay, "    {}_{number}();", call.name());
+            functions.push_str(&function(case, *number, &whole));
+            answers.push_str(&answer(case));
         }
     }
-    format!("{}{functions}pub fn run() {{\n{run}}}\n", heading(file, &functions))
+    format!("{}{functions}pub fn replay() {{\n{replay}}}\n", heading(file, &functions))
+}
+
+/// The buffers that have in every case the length that a desk gives them.
+fn whole(cases: &[(u64, Case)]) -> Vec<Field> {
+    let mut fields = vec![Field::State, Field::Log];
+    fields.retain(|field| {
+        cases.iter().all(|(_, case)| match field {
+            Field::State => case.state.len() == STATE_WORDS,
+            _ => case.log.len() == LOG_BYTES,
+        })
+    });
+    fields
 }
 
 fn heading(file: &File, functions: &str) -> String {
     let mut text = format!("// {} Made by peer/src/bin/sample.rs.\n", file.head);
     for (module, name) in PARTS {
-        if functions.contains(&format!(" {name}(")) {
+        if [' ', '('].iter().any(|before| functions.contains(&format!("{before}{name}("))) {
             let _ = writeln!(text, "use crate::{module}::{name};");
         }
     }
@@ -177,70 +201,79 @@ fn used<T: Default + PartialEq>(values: &[T]) -> usize {
     values.iter().rposition(|value| *value != T::default()).map_or(0, |last| last + 1)
 }
 
-fn function(case: &Case, wanted: u64) -> String {
-    let call = case.call;
-    let mut text = format!("fn {}_{wanted}() {{\n", call.name());
+/// The function that makes the call, and prints what it answers and leaves behind.
+fn calling(call: Call, whole: &[Field]) -> String {
+    let (mut parameters, mut passed, mut shown) = (Vec::new(), Vec::new(), String::new());
     for field in call.fields() {
-        text.push_str(&binding(case, *field));
+        let (name, lent) = (field.name(), starred(call).contains(field));
+        let changed = if lent { "mut " } else { "" };
+        let by_value = whole.contains(field) || lent && plain(*field);
+        parameters.push(match field {
+            Field::State if by_value => format!("{changed}{name}: [u64; {STATE_WORDS}]"),
+            Field::Log if by_value => format!("{changed}{name}: [u8; {LOG_BYTES}]"),
+            Field::State => format!("{name}: &{changed}[u64]"),
+            Field::Val0 | Field::Val1 => format!("{name}: u8"),
+            _ if plain(*field) => format!("{changed}{name}: u64"),
+            _ => format!("{name}: &{changed}[u8]"),
+        });
+        passed.push(if by_value { format!("&{changed}{name}") } else { name.to_string() });
     }
-    let passed: Vec<String> = call.fields().iter().map(|field| passed(case, *field)).collect();
-    let name = call.name();
-    let _ = writeln!(text, "    let answer = skaldrift_{name}({});", passed.join(", "));
-    let _ = writeln!(text, "    text(b\"{name}\");\n    number(answer);");
     for field in starred(call) {
-        let name = field.name();
-        let shown = match field {
-            Field::State => "words(&state)".to_string(),
-            Field::Start | Field::Report => format!("number({name})"),
-            _ => format!("bytes(&{name})"),
+        let (name, lent) = (field.name(), if whole.contains(field) { "&" } else { "" });
+        let _ = match field {
+            Field::State => writeln!(shown, "    state_words({lent}state);"),
+            Field::Start | Field::Report => writeln!(shown, "    {name}_number({name});"),
+            _ => writeln!(shown, "    {name}_bytes({lent}{name});"),
         };
-        let _ = writeln!(text, "    text(b\" {name}\");\n    {shown};");
     }
-    text.push_str("    text(b\"\\n\");\n}\n\n");
-    text
+    let (name, parameters, passed) = (call.name(), parameters.join(", "), passed.join(", "));
+    format!(
+        "fn {name}({parameters}) {{\n    let answer = skaldrift_{name}({passed});\n    \
+         number(b\"{name}\", answer);\n{shown}    end();\n}}\n\n"
+    )
 }
 
-/// A buffer that the call is lent, and a number that it is lent to change.
-fn binding(case: &Case, field: Field) -> String {
-    let lent = starred(case.call).contains(&field);
-    let name = field.name();
+/// A plain number of 64 bits.
+fn plain(field: Field) -> bool {
+    use Field::*;
+    matches!(field, Start | Addr | Len | Rounds | Report)
+}
+
+/// The function that hands the call what the case has.
+fn function(case: &Case, wanted: u64, whole: &[Field]) -> String {
+    let fields = case.call.fields().iter();
+    let passed: Vec<String> = fields.map(|field| passed(case, *field, whole)).collect();
+    let (name, passed) = (case.call.name(), passed.join(", "));
+    format!("fn {name}_{wanted}() {{\n    {name}({passed});\n}}\n\n")
+}
+
+fn passed(case: &Case, field: Field, whole: &[Field]) -> String {
+    let changed = if starred(case.call).contains(&field) { "mut " } else { "" };
     match (field, case.bytes(field)) {
-        (Field::State, _) => buffer(name, "u64", &case.state, lent),
-        (Field::Start, _) if lent => format!("    let mut start = {};\n", case.start),
-        (Field::Report, _) => format!("    let mut report = {};\n", case.report),
-        (_, Some(bytes)) if lent || bytes.len() > LONGEST_LITERAL => {
-            let words: Vec<u64> = bytes.iter().map(|byte| u64::from(*byte)).collect();
-            buffer(name, "u8", &words, lent)
+        (Field::State, _) if whole.contains(&field) => {
+            format!("state(&{:?})", &case.state[..used(&case.state)])
         }
-        _ => String::new(),
-    }
-}
-
-fn buffer(name: &str, element: &str, values: &[u64], lent: bool) -> String {
-    let used = used(values);
-    let mutable = if lent || used > 0 { "mut " } else { "" };
-    let mut text = format!("    let {mutable}{name} = [0{element}; {}];\n", values.len());
-    if used > 0 {
-        let fill = if element == "u8" { "with_bytes" } else { "with_words" };
-        let _ = writeln!(text, "    {fill}(&mut {name}, &{:?});", &values[..used]);
-    }
-    text
-}
-
-fn passed(case: &Case, field: Field) -> String {
-    let name = field.name();
-    match (field, case.bytes(field)) {
-        _ if starred(case.call).contains(&field) => format!("&mut {name}"),
-        (_, Some(bytes)) if bytes.len() <= LONGEST_LITERAL => format!("&{bytes:?}"),
-        (Field::State, _) | (_, Some(_)) => format!("&{name}"),
+        (Field::Log, _) if whole.contains(&field) => {
+            format!("log(&{:?})", &case.log[..used(&case.log)])
+        }
+        (Field::State, _) => format!("&{changed}{}", literal(&case.state)),
+        (_, Some(bytes)) => format!("&{changed}{}", literal(bytes)),
         (Field::Start, _) => case.start.to_string(),
+        (Field::Report, _) => case.report.to_string(),
         (Field::Addr, _) => case.addr.to_string(),
         (Field::Len, _) => case.len.to_string(),
         (Field::Val0, _) => case.val0.to_string(),
         (Field::Val1, _) => case.val1.to_string(),
         (Field::Rounds, _) => case.rounds.to_string(),
-        _ => unreachable!("{name} is always lent"),
+        _ => unreachable!("{} is a buffer", field.name()),
     }
+}
+
+fn literal<T: Default + PartialEq + std::fmt::Debug>(values: &[T]) -> String {
+    if used(values) == 0 && values.len() > MOST_ZEROS {
+        return format!("[0; {}]", values.len());
+    }
+    format!("{values:?}")
 }
 
 /// What the program prints for the case, by the oracle.
