@@ -12,14 +12,14 @@ use Rattle.region.specs.Limits.{image-limit, log-limit}
 use Rattle.region.specs.Answer.{unless, answer-number, refusal-number}
 use Rattle.region.specs.declared.Answer.{Answer}
 use Rattle.region.specs.declared.Refusal.{Refusal}
-use Rattle.region.specs.declared.Refusal.the-variants.{BadState, OutOfRange, TooManyWrites, TooManyBytes, BadSheet, BrokenImage, TooManyPoints, BadRows, BadTape, NotPredicted, TooManyRounds}
+use Rattle.region.specs.declared.Refusal.the-variants.{BadState, OutOfRange, BrokenImage, TooManyRounds}
 use Rattle.region.specs.declared.Answer.the-variants as answers
 use Rattle.region.proofs.AnswerLaws.{refusals-by-number, done-changed, refused-left, refusal-not-done, passed}
 use Rattle.region.proofs.Booleans.{both, cond-when, cond-unless}
 use Rattle.records.specs.declared.state.State.{State}
 use Rattle.sheet.specs.Sheet.{well-formed, obeys}
 use Rattle.gate.specs.Opening.{open-number, Opens}
-use Rattle.gate.specs.Judgement.{denied-number}
+use Rattle.gate.proofs.Meaning.{denial-is-no-refusal}
 use Rattle.gate.proofs.OpeningLaws.{open-good, open-broken}
 use Rattle.gate.proofs.Gives.{opens-means, opened-fresh}
 use Rattle.example.specs.Valid.{valid}

@@ -24,7 +24,7 @@ use Rattle.writelog.specs.Flush.{flush-number}
 use Rattle.writelog.specs.Cut.{cut-report, cut-told, chunks, cut-number}
 use Rattle.writelog.specs.declared.cut.CutAnswer.{CutAnswer}
 use Rattle.writelog.specs.declared.cut.CutAnswer.the-variants as cut-answer
-use Rattle.writelog.proofs.CutLaws.{cut-told, kept-told, refused-told}
+use Rattle.writelog.proofs.CutLaws.{kept-told, refused-told}
 use Rattle.engine.specs.Search.{sheet-verdict}
 use Rattle.gate.specs.Opening.{open-number}
 use Rattle.gate.specs.Judgement.{verdict-report, Judgement, refused, tried, gate-points, weighed, judgement, judgement-report, judge-report}

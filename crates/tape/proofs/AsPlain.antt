@@ -18,12 +18,12 @@ use Rattle.replay.specs.Rows.{row-bytes, rows-at, rows-filled, rows-right}
 use Rattle.records.specs.State.{view}
 use Rattle.writelog.specs.Write.{write-number, Writes}
 use Rattle.writelog.specs.Flush.{flush-number, Flushes}
-use Rattle.writelog.specs.Cut.{chunks, cut-number, cut-kept, cut-image, Cuts}
+use Rattle.writelog.specs.Cut.{cut-told, chunks, cut-number, cut-kept, cut-image, Cuts}
 use Rattle.records.specs.declared.state.State.{State}
 use Rattle.writelog.specs.declared.cut.CutAnswer.{CutAnswer}
 use Rattle.records.proofs.Soundness.{facts-sound}
 use Rattle.writelog.proofs.FlushLaws.{flush-sound}
-use Rattle.writelog.proofs.CutLaws.{cut-told, cut-good}
+use Rattle.writelog.proofs.CutLaws.{cut-good}
 use Rattle.tape.specs.Epoch.{epoch-rows}
 use Rattle.tape.specs.Write.{tape-write-number, TapeWrites}
 use Rattle.tape.specs.Ending.{predicted-now}

@@ -10,13 +10,9 @@ use Rattle.region.proofs.AnswerLaws.{done-changed, refused-left}
 use Rattle.region.proofs.Booleans.{cond-when, cond-unless}
 use Rattle.replay.specs.Rows.{rows-right}
 use Rattle.records.specs.State.{sound, emptied}
-use Rattle.writelog.specs.Cut.{cut-report, chunks, cut-number, cut-image, cut-kept, Cuts}
+use Rattle.writelog.specs.Cut.{cut-report, cut-told, chunks, cut-number, cut-image, cut-kept, Cuts}
 use Rattle.records.specs.declared.state.State.{State}
 use Rattle.writelog.specs.declared.cut.CutAnswer.the-variants.{Kept, Refused}
-
--- a cut's report: its number, and the kept count where it is done
-abbrev pub cut-told : ℕ → ℕ → Report
-cut-told kept n = record { number = n; values = if-done n (kept ∷ []) [] }
 
 pub kept-told : {k kept n : ℕ} → k ≡ kept → n ≡ 0 → cut-report (Kept k) ≡ cut-told kept n
 kept-told {kept = kept} e none = ap (λ (k : ℕ). cut-told k 0) e ∙ ap (cut-told kept) (sym none)
