@@ -42,6 +42,13 @@ passed-or-refused true true (suc k) t₃ r = inr (suc k, omega arith, refl)
 passed-or-refused true false k t₃ r = inr (5, omega arith, refl)
 passed-or-refused false t₂ k t₃ r = inr (1, omega arith, refl)
 
+-- two reports that are the same
+pub same-number : {r s : Report} → r ≡ s → r .number ≡ s .number
+same-number e = ap (λ (r : Report). r .number) e
+
+pub same-values : {r s : Report} → r ≡ s → r .values ≡ s .values
+same-values e = ap (λ (r : Report). r .values) e
+
 -- a report of a value is none of nothing, and tells the value
 pub nothing-reported : {m : ℕ} → [] ≡ m ∷ [] → ⊥
 nothing-reported e = suc-ne-zero 0 (sym (ap length e))
@@ -55,8 +62,8 @@ admit-reported n search.admit e = refl
 admit-reported n (search.deny m) e = absurd (suc-ne-zero 7 e)
 
 deny-reported : (n m : ℕ) (r : search.Verdict) → judgement-report n (tried r) ≡ record { number = denied-number; values = m ∷ [] } → r ≡ search.deny m
-deny-reported n m search.admit e = absurd (suc-ne-zero 7 (sym (ap (λ (r : Report). r .number) e)))
-deny-reported n m (search.deny k) e = ap search.deny (one-value (ap (λ (r : Report). r .values) e))
+deny-reported n m search.admit e = absurd (suc-ne-zero 7 (sym (same-number e)))
+deny-reported n m (search.deny k) e = ap search.deny (one-value (same-values e))
 
 some-reported : (n : ℕ) (r : search.Verdict) → [] ≡ judgement-report n (tried r) .values → ⊥
 some-reported n search.admit e = nothing-reported e
@@ -129,7 +136,7 @@ module _ (image : List ℕ) (st : State) (log sheet work : List ℕ) (addr : ℕ
   report-8-fits m e =
       ⊎-elim
       (λ f. (f, deny-reported _ m _ (rw (fitting-tried f) at e)))
-      (λ w. absurd (nothing-reported (ap (λ (r : Report). r .values) (rw (w .2) at e))))
+      (λ w. absurd (nothing-reported (same-values (rw (w .2) at e))))
       fits-or-refused
 
   -- a report of no value: no image was judged
@@ -141,7 +148,7 @@ module _ (image : List ℕ) (st : State) (log sheet work : List ℕ) (addr : ℕ
       fits-or-refused
 
   pub admitted-number : {answer : Verdict} {work′ : List ℕ} → Judges image st log sheet work addr bytes answer work′ → {n : ℕ} → answer ≡ Admitted n → judge-number image st log sheet work addr bytes ≡ 0
-  admitted-number j a = sym (ap (λ (r : Report). r .number) (j .answers)) ∙ ap (λ (v : Verdict). verdict-report v .number) a
+  admitted-number j a = sym (same-number (j .answers)) ∙ ap (λ (v : Verdict). verdict-report v .number) a
 
 -- the promises, return by return
 module _ {image : List ℕ} {st : State} {log sheet work : List ℕ} {addr : ℕ} {bytes : List ℕ} where
@@ -208,7 +215,7 @@ module _ {image : List ℕ} {st : State} {log sheet work : List ℕ} {addr : ℕ
 
     -- a refusal judged nothing
     pub refused-work : {why : Refusal} → answer ≡ Refused why → work′ ≡ work
-    refused-work a = j .work-after ∙ none-judged image st log sheet work addr bytes (ap (λ (r : Report). r .values) (sym (ap verdict-report a) ∙ j .answers))
+    refused-work a = j .work-after ∙ none-judged image st log sheet work addr bytes (same-values (sym (ap verdict-report a) ∙ j .answers))
 
     pub gates-admitted : {n : ℕ} → answer ≡ Admitted n → {st′ : State} {log′ : List ℕ} → st′ ≡ appended st addr (length bytes) → log′ ≡ update-bytes log (together (log-records st)) bytes
         → Gates image st log sheet work addr bytes answer st′ log′ work′
@@ -222,7 +229,7 @@ module _ {image : List ℕ} {st : State} {log sheet work : List ℕ} {addr : ℕ
         }
 
     pub not-admitted-number : 0 < verdict-report answer .number → 0 < judge-number image st log sheet work addr bytes
-    not-admitted-number h = rw (ap (λ (r : Report). r .number) (j .answers)) at h
+    not-admitted-number h = rw (same-number (j .answers)) at h
 
     gates-left : 0 < verdict-report answer .number → Gates image st log sheet work addr bytes answer st log work′
     gates-left h =

@@ -7,7 +7,7 @@ use mathlib.Core.List.{List}
 use lib.Dec.{lit<}
 use lib.ListN.{length}
 use Rattle.region.specs.Limits.{const-persistence-chunk-size}
-use Rattle.region.specs.Answer.{Report, refusal-number}
+use Rattle.region.specs.Answer.{refusal-number}
 use Rattle.region.specs.declared.Refusal.{Refusal}
 use Rattle.region.specs.Pmemspec.{update-bytes}
 use Rattle.region.proofs.AnswerLaws.{refusals-by-number, refusal-not-8, done-changed}
@@ -25,7 +25,7 @@ use Rattle.gate.specs.declared.Verdict.{Verdict}
 use Rattle.gate.specs.declared.Verdict.the-variants.{Admitted, Denied, Refused}
 use Rattle.gate.specs.Judgement.{denied-number, verdict-report, Judgement, tried, gate-points, judgement-report, judgement-work, Judges, Gates}
 use Rattle.gate.specs.Meaning.{Fits, Means, could-leave}
-use Rattle.gate.proofs.JudgementLaws.{J, nothing-reported, one-value, fitting-tried, admitted-fits, denied-fits}
+use Rattle.gate.proofs.JudgementLaws.{J, same-number, same-values, nothing-reported, one-value, fitting-tried, admitted-fits, denied-fits}
 
 -- 8 is a denial alone
 pub denial-is-no-refusal : (why : Refusal) → refusal-number why ≡ denied-number → ⊥
@@ -33,15 +33,15 @@ denial-is-no-refusal = refusal-not-8
 
 -- the numbers and values of document 01 tell the verdicts apart
 pub verdicts-by-report : (a b : Verdict) → verdict-report a ≡ verdict-report b → a ≡ b
-verdicts-by-report (Admitted n) (Admitted k) e = ap Admitted (one-value (ap (λ (r : Report). r .values) e))
-verdicts-by-report (Admitted n) (Denied m) e = absurd (suc-ne-zero 7 (sym (ap (λ (r : Report). r .number) e)))
-verdicts-by-report (Admitted n) (Refused why) e = absurd (nothing-reported (sym (ap (λ (r : Report). r .values) e)))
-verdicts-by-report (Denied m) (Admitted n) e = absurd (suc-ne-zero 7 (ap (λ (r : Report). r .number) e))
-verdicts-by-report (Denied m) (Denied k) e = ap Denied (one-value (ap (λ (r : Report). r .values) e))
-verdicts-by-report (Denied m) (Refused why) e = absurd (nothing-reported (sym (ap (λ (r : Report). r .values) e)))
-verdicts-by-report (Refused why) (Admitted n) e = absurd (nothing-reported (ap (λ (r : Report). r .values) e))
-verdicts-by-report (Refused why) (Denied m) e = absurd (nothing-reported (ap (λ (r : Report). r .values) e))
-verdicts-by-report (Refused why) (Refused reason) e = ap Refused (refusals-by-number why reason (ap (λ (r : Report). r .number) e))
+verdicts-by-report (Admitted n) (Admitted k) e = ap Admitted (one-value (same-values e))
+verdicts-by-report (Admitted n) (Denied m) e = absurd (suc-ne-zero 7 (sym (same-number e)))
+verdicts-by-report (Admitted n) (Refused why) e = absurd (nothing-reported (sym (same-values e)))
+verdicts-by-report (Denied m) (Admitted n) e = absurd (suc-ne-zero 7 (same-number e))
+verdicts-by-report (Denied m) (Denied k) e = ap Denied (one-value (same-values e))
+verdicts-by-report (Denied m) (Refused why) e = absurd (nothing-reported (sym (same-values e)))
+verdicts-by-report (Refused why) (Admitted n) e = absurd (nothing-reported (same-values e))
+verdicts-by-report (Refused why) (Denied m) e = absurd (nothing-reported (same-values e))
+verdicts-by-report (Refused why) (Refused reason) e = ap Refused (refusals-by-number why reason (same-number e))
 
 -- the rule of a sheet looks at the image after alone
 rule-alone : (sheet : List ℕ) → _≡_ {A = Rule} (λ before after. obeys sheet before after) (after-alone (λ x. obeys sheet x x))
@@ -95,7 +95,7 @@ module _ (image : List ℕ) (st : State) (log sheet work : List ℕ) (addr : ℕ
             λ f. denied-so m (f .0) (judged .names-the-first m .1 (f .1)),
           );
           admitted-leaves = λ n a. let f = admitted-fits p a in (
-            one-value (ap (λ (r : Report). r .values) (sym (ap verdict-report a) ∙ ap verdict-report (answered search.admit (Admitted (gate-points image st log addr bytes)) refl (f .0) (f .1)))),
+            one-value (same-values (sym (ap verdict-report a) ∙ ap verdict-report (answered search.admit (Admitted (gate-points image st log addr bytes)) refl (f .0) (f .1)))),
             left search.admit (f .0) (f .1),
           );
           denied-leaves = λ m d. let f = denied-fits p d in left (search.deny m) (f .0) (f .1);
@@ -114,7 +114,7 @@ module _ (image : List ℕ) (st : State) (log sheet work : List ℕ) (addr : ℕ
   admitting f all =
       let admits : J image st log sheet work addr bytes ≡ tried search.admit = fitting-tried image st log sheet work addr bytes f ∙ ap tried (judged .admits .1 all) in
       let report = ap (judgement-report (gate-points image st log addr bytes)) admits in
-      let none = ap (λ (r : Report). r .number) report in
+      let none = same-number report in
       record {
         answers = sym report;
         state-after = done-changed _ none;
