@@ -1,7 +1,7 @@
 -- What a good opening and an admitted write give a session: a sound state of the right size, the view that the original has, and that every image
 -- which a cut could then leave obeys the sheet. Assumes nothing.
 use Prim.Native.Nat.{ℕ, _<_}
-use mathlib.Core.Path.{_≡_, refl, sym, ap, ap₂, subst, subst⁻¹, _∙_}
+use mathlib.Core.Path.{_≡_, refl, sym, ap, ap₂, _∙_}
 use mathlib.Core.Logic.{_↔_}
 use mathlib.Core.Bool.{true}
 use mathlib.Core.List.{List}
@@ -13,7 +13,7 @@ use Rattle.region.specs.declared.Refusal.{Refusal}
 use Rattle.region.specs.declared.Answer.{Answer}
 use Rattle.region.specs.declared.Answer.the-variants.{Done}
 use Rattle.region.proofs.AnswerLaws.{answers-by-number, changed, not-done, refusal-not-done}
-use Rattle.replay.specs.AsyncSpec.{AsyncView, write, readable, can-crash}
+use Rattle.replay.specs.AsyncSpec.{write, readable, can-crash}
 use Rattle.cuts.proofs.Always.{cut-of-nothing}
 use Rattle.sheet.specs.Sheet.{obeys}
 use Rattle.records.specs.State.{log-records, together, view, appended, emptied}
@@ -47,7 +47,7 @@ empty-holds image st log sheet sized o =
     record {
       sized = sized;
       facts = sound-after-emptied st (length image) (length log) (o .short) (o .buffer);
-      all-obey = λ x h. let e = cut-of-nothing const-persistence-chunk-size image x .0 (subst (λ (v : AsyncView). can-crash const-persistence-chunk-size v x) (view-of-emptied st image log) h) in
+      all-obey = λ x h. let e = cut-of-nothing const-persistence-chunk-size image x .0 (rw (view-of-emptied st image log) at h) in
           ap₂ (obeys sheet) e e ∙ o .obeyed;
     }
 
@@ -63,7 +63,7 @@ module _ (image : List ℕ) (st : State) (log sheet : List ℕ) {answer : Answer
   opened-fresh d = changed _ (p .state-after) (sym (p .answers) ∙ ap answer-number d)
 
   pub opened-holds : answer ≡ Done → Holds image st′ log sheet
-  opened-holds d = subst⁻¹ (λ (s : State). Holds image s log sheet) (opened-fresh d) (empty-holds image fresh log sheet refl (opens-means .0 d))
+  opened-holds d = rw (opened-fresh d) (empty-holds image fresh log sheet refl (opens-means .0 d))
 
 module _ (image : List ℕ) (st : State) (log sheet work : List ℕ) (addr : ℕ) (bytes : List ℕ) where
   -- a write that fits is one that a plain write accepts
@@ -83,7 +83,7 @@ module _ (image : List ℕ) (st : State) (log sheet work : List ℕ) (addr : ℕ
         record {
           sized = sized-of-appended st addr (length bytes) sized;
           facts = sound-after-recorded image st log addr bytes sized facts room;
-          all-obey = λ x h. all x (subst (λ (v : AsyncView). can-crash const-persistence-chunk-size v x) seen h);
+          all-obey = λ x h. all x (rw seen at h);
         },
       )
 
@@ -109,7 +109,7 @@ module _ (image : List ℕ) (st : State) (log sheet work : List ℕ) (addr : ℕ
         let l : log′ ≡ log-with st log bytes = changed _ (g .log-after) none in
         let seen : view image st′ log′ ≡ write (view image st log) addr bytes = ap₂ (view image) s l ∙ held .1 in (
           seen,
-          subst⁻¹ (λ (b : List ℕ). Holds image st′ b sheet) l (subst⁻¹ (λ (t : State). Holds image t (log-with st log bytes) sheet) s (held .2)),
+          rw (s, l) (held .2),
           judge-means image st log sheet work addr bytes j .admitted-leaves n a .1 ∙ ap readable (sym seen),
         )
 

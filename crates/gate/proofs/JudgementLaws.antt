@@ -140,8 +140,8 @@ module _ (image : List ℕ) (st : State) (log sheet work : List ℕ) (addr : ℕ
       fits-or-refused
 
   -- a report of no value: no image was judged
-  none-judged : [] ≡ judge-report image st log sheet work addr bytes .values → judge-work image st log sheet work addr bytes ≡ work
-  none-judged e =
+  no-image-judged : [] ≡ judge-report image st log sheet work addr bytes .values → judge-work image st log sheet work addr bytes ≡ work
+  no-image-judged e =
       ⊎-elim
       (λ f. absurd (some-reported points verdict-on (rw (fitting-tried f) at e)))
       (λ w. ap (λ (j : Judgement). judgement-work (view image st log) addr bytes j work) (w .2))
@@ -215,7 +215,7 @@ module _ {image : List ℕ} {st : State} {log sheet work : List ℕ} {addr : ℕ
 
     -- a refusal judged nothing
     pub refused-work : {why : Refusal} → answer ≡ Refused why → work′ ≡ work
-    refused-work a = j .work-after ∙ none-judged image st log sheet work addr bytes (same-values (sym (ap verdict-report a) ∙ j .answers))
+    refused-work a = j .work-after ∙ no-image-judged image st log sheet work addr bytes (same-values (sym (ap verdict-report a) ∙ j .answers))
 
     pub gates-admitted : {n : ℕ} → answer ≡ Admitted n → {st′ : State} {log′ : List ℕ} → st′ ≡ appended st addr (length bytes) → log′ ≡ update-bytes log (together (log-records st)) bytes
         → Gates image st log sheet work addr bytes answer st′ log′ work′
