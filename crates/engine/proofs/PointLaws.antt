@@ -2,7 +2,7 @@
 use Prim.Native.Nat.{ℕ, _+_, _-_, _≤_, _<_}
 use native.Mathlib.Nat.{add-sub-cancel-left, sub-self, le-refl}
 use native.Mathlib.Omega.{arith}
-use mathlib.Core.Path.{_≡_, refl, ap, ap₂, _∙_}
+use mathlib.Core.Path.{_≡_, refl, ap₂}
 use mathlib.Core.Bool.{true}
 use mathlib.Core.List.{List, [], _∷_}
 use lib.ListN.{length, take, drop, length-drop}
@@ -12,7 +12,6 @@ use Rattle.region.specs.Limits.{const-persistence-chunk-size}
 use Rattle.region.proofs.Booleans.{both, both-true}
 use Rattle.replay.specs.Choice.{touched, points}
 use Rattle.replay.specs.AsyncSpec.{write}
-use Rattle.cuts.specs.Bits.{new-write}
 use Rattle.cuts.specs.Number.{choice-points}
 use Rattle.cuts.proofs.Choices.{points-of-one-more}
 use Rattle.records.specs.State.{log-records, together, writes-of, records-inside, sound, view}
@@ -42,7 +41,7 @@ inside-longer L M (r ∷ rs) h e =
 
 -- a write's bytes in the log buffer are as many as its record says
 pub piece-length : (at n : ℕ) (log : List ℕ) → at + n ≤ length log → length (take (at + n - at) (drop at log)) ≡ n
-piece-length at n log h = ap (λ (k : ℕ). length (take k (drop at log))) (add-sub-cancel-left at n) ∙ length-take-le n (drop at log) (omega (arith, length-drop at log))
+piece-length at n log h = rw (add-sub-cancel-left at n) (length-take-le n (drop at log) (omega (arith, length-drop at log)))
 
 -- the points of the oldest remaining write, and of those after it
 pub points-more : {L : ℕ} {st : State} {n at left : ℕ} → Remaining L st n at left → 0 < left
@@ -51,12 +50,11 @@ pub points-more : {L : ℕ} {st : State} {n at left : ℕ} → Remaining L st n 
 unfolding record-points
 points-more {st = st} {left = left} r p =
     let follow : st .count - left + 1 ≡ st .count - (left - 1) = omega (arith, r .some) in
-    ap (record-points const-persistence-chunk-size) (next-and-rest st (st .count - left) (omega (arith, r .some)) (omega (arith, r .sized, r .few)))
-    ∙ ap (λ (k : ℕ). touched const-persistence-chunk-size (oldest st left .addr) (oldest st left .len) + record-points const-persistence-chunk-size (drop k (log-records st))) follow
+    rw (next-and-rest st (st .count - left) (omega (arith, r .some)) (omega (arith, r .sized, r .few)), follow)
 
 -- all points of the log
 pub all-points : (C : ℕ) (st : State) → record-points C (last-records st (st .count)) ≡ record-points C (log-records st)
-all-points C st = ap (λ (k : ℕ). record-points C (drop k (log-records st))) (sub-self (st .count))
+all-points C st = rw sub-self
 
 -- a log has no more points than bytes
 pub record-points-le : (rs : List Record) → record-points const-persistence-chunk-size rs ≤ together rs
@@ -69,5 +67,4 @@ pub points-with-a-write : (image : List ℕ) (st : State) (log : List ℕ) (addr
     → choice-points const-persistence-chunk-size (write (view image st log) addr bytes) ≡ record-points const-persistence-chunk-size (log-records st) + touched const-persistence-chunk-size addr (length bytes)
 points-with-a-write image st log addr bytes good =
     let facts = sound-facts (length image) st (length log) good in
-    points-of-one-more const-persistence-chunk-size (view image st log .outstanding-writes) (new-write addr bytes)
-    ∙ ap (λ (k : ℕ). k + touched const-persistence-chunk-size addr (length bytes)) (points-by-records const-persistence-chunk-size (log-records st) log (omega (arith, facts .room, facts .buffer)))
+    rw (points-of-one-more, points-by-records const-persistence-chunk-size (log-records st) log (omega (arith, facts .room, facts .buffer)))

@@ -1,7 +1,6 @@
 -- A trial's three steps leave the image of its choice number: the image, the log over it by the number's lowest points, and the new write by those
 -- above. Assumes nothing.
 use Prim.Native.Nat.{ℕ, _+_, _-_, _/_, _^_, _<_}
-use native.Mathlib.Nat.{add-sub-cancel}
 use native.Mathlib.Omega.{arith}
 use mathlib.Core.Path.{_≡_, sym, ap, _∙_}
 use mathlib.Core.List.{List}
@@ -18,7 +17,6 @@ use Rattle.records.specs.Log.{last-writes, Remaining}
 use Rattle.records.specs.declared.state.State.{State}
 use Rattle.records.proofs.Soundness.{sound-facts}
 use Rattle.records.proofs.Walk.{oldest, no-more, step, piece-is, all-writes, all-remain}
-use Rattle.engine.specs.Count.{record-points}
 use Rattle.engine.specs.Search.{Ready}
 use Rattle.engine.proofs.PointLaws.{points-by-records, piece-length}
 
@@ -58,9 +56,7 @@ module _ (image : List ℕ) (st : State) (log : List ℕ) (work-length addr : �
   older-points : n - touched const-persistence-chunk-size addr (length bytes) ≡ choice-points const-persistence-chunk-size (view image st log)
   older-points =
       let facts = sound-facts (length image) st (length log) (r .good) in
-      ap (λ (k : ℕ). k - touched const-persistence-chunk-size addr (length bytes)) (r .counted)
-      ∙ add-sub-cancel (record-points const-persistence-chunk-size (log-records st)) (touched const-persistence-chunk-size addr (length bytes))
-      ∙ sym (points-by-records const-persistence-chunk-size (log-records st) log (omega (arith, facts .room, facts .buffer)))
+      omega (arith, r .counted, points-by-records const-persistence-chunk-size (log-records st) log (omega (arith, facts .room, facts .buffer)))
 
   pub trial-image : (m : ℕ) {copied replayed work′ : List ℕ} {older : ℕ}
       → copied ≡ image
