@@ -155,11 +155,7 @@ module _ {image : List ℕ} {st : State} {log sheet work : List ℕ} {addr : ℕ
   judges-so : {j : Judgement} {answer : Verdict} {work′ : List ℕ} → J image st log sheet work addr bytes ≡ j
       → verdict-report answer ≡ judgement-report (gate-points image st log addr bytes) j → work′ ≡ judgement-work (view image st log) addr bytes j work
       → Judges image st log sheet work addr bytes answer work′
-  judges-so e a w =
-      record {
-        answers = a ∙ sym (ap (judgement-report (gate-points image st log addr bytes)) e);
-        work-after = w ∙ sym (ap (λ (j : Judgement). judgement-work (view image st log) addr bytes j work) e);
-      }
+  judges-so e a w = record { answers = rw e a; work-after = rw e w }
 
   judges-refused : (why : Refusal) → J image st log sheet work addr bytes ≡ refused (refusal-number why) → Judges image st log sheet work addr bytes (Refused why) work
   judges-refused why e = judges-so e refl refl
@@ -186,11 +182,7 @@ module _ {image : List ℕ} {st : State} {log sheet work : List ℕ} {addr : ℕ
   weighs-so : {j : Judgement} {answer : Verdict} {work′ : List ℕ} → weighed image st log sheet addr bytes ≡ j
       → verdict-report answer ≡ judgement-report (gate-points image st log addr bytes) j → work′ ≡ judgement-work (view image st log) addr bytes j work
       → Weighs image st log sheet work addr bytes answer work′
-  weighs-so e a w =
-      record {
-        answers = a ∙ sym (ap (judgement-report (gate-points image st log addr bytes)) e);
-        work-after = w ∙ sym (ap (λ (j : Judgement). judgement-work (view image st log) addr bytes j work) e);
-      }
+  weighs-so e a w = record { answers = rw e a; work-after = rw e w }
 
   pub weighs-many : points-limit < gate-points image st log addr bytes → Weighs image st log sheet work addr bytes (Refused TooManyPoints) work
   weighs-many h = weighs-so (cond-unless (leb (gate-points image st log addr bytes) points-limit) _ (refused 7) (lt-leb (gate-points image st log addr bytes) points-limit h)) refl refl

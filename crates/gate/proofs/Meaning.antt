@@ -62,11 +62,10 @@ module _ (image : List ℕ) (st : State) (log sheet work : List ℕ) (addr : ℕ
   module _ {answer : Verdict} {work′ : List ℕ} (p : Judges image st log sheet work addr bytes answer work′) where
     -- what a write that fits gets, by the engine's verdict
     answered : (r : search.Verdict) (a : Verdict) → verdict-report a ≡ judgement-report (gate-points image st log addr bytes) (tried r) → Fits image st log sheet work addr bytes → verdict-on ≡ r → answer ≡ a
-    answered r a report f e =
-        verdicts-by-report answer a (p .answers ∙ ap (judgement-report (gate-points image st log addr bytes)) (fitting-tried image st log sheet work addr bytes f ∙ ap tried e) ∙ sym report)
+    answered r a report f e = verdicts-by-report answer a (rw (fitting-tried image st log sheet work addr bytes f, e) at (p .answers) ∙ sym report)
 
     left : (r : search.Verdict) → Fits image st log sheet work addr bytes → verdict-on ≡ r → work′ ≡ sheet-image v addr bytes r
-    left r f e = p .work-after ∙ ap (λ (j : Judgement). judgement-work v addr bytes j work) (fitting-tried image st log sheet work addr bytes f ∙ ap tried e)
+    left r f e = rw (fitting-tried image st log sheet work addr bytes f, e) at (p .work-after)
 
     admitted-so : Fits image st log sheet work addr bytes → verdict-on ≡ search.admit → (n : ℕ) × (answer ≡ Admitted n)
     admitted-so f e = (gate-points image st log addr bytes, answered search.admit (Admitted (gate-points image st log addr bytes)) refl f e)
