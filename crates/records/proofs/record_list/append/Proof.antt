@@ -1,8 +1,8 @@
 -- `append` meets its contract: a walk of its MIR, by hand. Where `at` is below the length, the place of `records[at]` is `at` records past the slice's
 -- pointer, the borrow is opened, r is stored there, and the borrow is closed at the list with r; elsewhere nothing is stored, which is what `set` does
 -- past the end. Assumes nothing.
-use mathlib.Core.Path.{_≡_, refl, sym, ap, subst}
 use Prim.Native.Nat.{ℕ, _<_, _*_, _^_}
+use mathlib.Core.Path.{_≡_, refl, sym, ap, subst}
 use mathlib.Core.Bool.{Bool, true, false, not}
 use mathlib.Core.List.{List, [], _∷_}
 use lib.Dec.{T, ltb, ltb→lt, nltb→le}

@@ -1,7 +1,7 @@
 -- `lookup` meets its contract: a walk of its MIR, by hand. Where i is below the length, the place of `records[i]` is i records past the slice's pointer,
 -- and the record is read there; elsewhere the zero record is made, which is what `getD` gives past the end. Assumes nothing.
-use mathlib.Core.Path.{_≡_, refl, sym}
 use Prim.Native.Nat.{ℕ, _<_, _*_, _^_}
+use mathlib.Core.Path.{_≡_, refl, sym}
 use mathlib.Core.List.{List, [], _∷_}
 use lib.Dec.{lit<, ltb→lt, nltb→le}
 use lib.ListN.{length, getD, List·getD-eq-default}

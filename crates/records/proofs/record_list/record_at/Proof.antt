@@ -1,7 +1,7 @@
 -- `record_at` meets its contract: a walk of its MIR, by hand. The records of the local state are lent for a lifetime of the call, `lookup` is called on
 -- them, and they come back. All that the proof knows of `lookup` is that it meets its contract. Assumes nothing.
-use mathlib.Core.Path.{_≡_, refl, sym}
 use Prim.Native.Nat.{ℕ, _<_, _^_}
+use mathlib.Core.Path.{_≡_, refl, sym}
 use mathlib.Core.List.{List, [], _∷_}
 use lib.Dec.{lit<}
 use lib.ListN.{length, getD}
@@ -42,8 +42,8 @@ use denote.Triple.Spec.{Meets, tripleOf}
 use denote.Triple.Table.{entered, cited}
 use denote.Triple.Walked.{says, Stays, stay-none, walkOf, goes-none, Walks, ends-at, walked, walk-meets}
 use denote.Exit.{yes}
-use Rattle.records.specs.State.{no-record}
 use Rattle.region.specs.Limits.{writes-limit}
+use Rattle.records.specs.State.{no-record}
 use Rattle.records.specs.declared.state.Record.{Record}
 use Rattle.records.specs.declared.state.State.{State}
 use Rattle.records.proofs.Branch.{local, sets, frees-cell}

@@ -1,7 +1,7 @@
 -- `with_record` meets its contract: a walk of its MIR, by hand. The records of the local state are lent for a lifetime of the call, `append` is called
 -- on them, and the last list comes back into the state. All that the proof knows of `append` is that it meets its contract. Assumes nothing.
-use mathlib.Core.Path.{_≡_, refl, sym, _∙_, ap}
 use Prim.Native.Nat.{ℕ, _<_, _^_}
+use mathlib.Core.Path.{_≡_, refl, sym, _∙_, ap}
 use mathlib.Core.Bool.{Bool}
 use mathlib.Core.List.{List, [], _∷_}
 use lib.Dec.{lit<, ltb}

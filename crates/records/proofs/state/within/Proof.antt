@@ -8,15 +8,15 @@ use borrow.Author.Tests.{le-leb, lt-leb}
 use Rattle.records.proofs.state.within.Statement.{statement}
 use Rattle.records.proofs.state.within.Tie as tie
 
-returns : tie.Need-returns
-returns c = sym (lt-leb (c .before .args .addr + c .before .args .len) (c .before .args .size) (omega arith))
+too-long : tie.Need-returns
+too-long c = sym (lt-leb (c .before .args .addr + c .before .args .len) (c .before .args .size) (omega arith))
 
-returns-2 : tie.Need-returns-2
-returns-2 c =
+by-what-is-left : tie.Need-returns-2
+by-what-is-left c =
     let a = c .before .args in
     by-cases (decLe (a .addr) (a .size - a .len))
     (λ l. le-leb (a .addr) (a .size - a .len) l ∙ sym (le-leb (a .addr + a .len) (a .size) (omega arith)))
     (λ g. lt-leb (a .addr) (a .size - a .len) (omega arith) ∙ sym (lt-leb (a .addr + a .len) (a .size) (omega arith)))
 
 pub within-spec : {M : Type 1} → statement M
-within-spec = tie.close (tie.spec returns returns-2)
+within-spec = tie.close (tie.spec too-long by-what-is-left)
