@@ -16,12 +16,13 @@ use Rattle.replay.specs.AsyncSpec.{flush-selective}
 use Rattle.replay.specs.Kept.{kept}
 use Rattle.replay.specs.Rows.{row-bytes, rows-at, rows-filled, rows-right}
 use Rattle.records.specs.State.{view}
+use Rattle.records.specs.declared.state.State.{State}
+use Rattle.records.proofs.Soundness.{facts-sound}
+use Rattle.records.proofs.Views.{writes-counted}
 use Rattle.writelog.specs.Write.{write-number, Writes}
 use Rattle.writelog.specs.Flush.{flush-number, Flushes}
 use Rattle.writelog.specs.Cut.{cut-told, chunks, cut-number, cut-kept, cut-image, Cuts}
-use Rattle.records.specs.declared.state.State.{State}
 use Rattle.writelog.specs.declared.cut.CutAnswer.{CutAnswer}
-use Rattle.records.proofs.Soundness.{facts-sound}
 use Rattle.writelog.proofs.FlushLaws.{flush-sound}
 use Rattle.writelog.proofs.CutLaws.{cut-good}
 use Rattle.tape.specs.Epoch.{epoch-rows}
@@ -31,7 +32,6 @@ use Rattle.tape.specs.Flush.{tape-flush-number, TapeFlushes}
 use Rattle.tape.specs.Cut.{tape-cut-number, tape-kept, TapeCuts}
 use Rattle.tape.proofs.NumberLaws.{plainly-done, ending-done}
 use Rattle.tape.proofs.PredictLaws.{predicted-cut}
-use Rattle.records.proofs.Views.{writes-counted}
 use Rattle.tape.proofs.RowsLaws.{rows-of-part, rows-filled-of-part, rows-before, rows-filled-before}
 
 abbrev C : ℕ

@@ -13,11 +13,11 @@ use Rattle.region.proofs.AnswerLaws.{passed, go-on, stop, both-none}
 use Rattle.region.proofs.Booleans.{cond-when, cond-unless, and-when, and-unless, both}
 use Rattle.replay.specs.AsyncSpec.{size-to-chunks}
 use Rattle.records.specs.State.{sound, appended}
-use Rattle.writelog.specs.Write.{room-number, write-number}
 use Rattle.records.specs.declared.state.State.{State}
 use Rattle.records.proofs.Soundness.{Sound, sound-facts, Room}
 use Rattle.records.proofs.Views.{sized-of-appended, sound-of-appended}
 use Rattle.records.proofs.Walk.{all-remain}
+use Rattle.writelog.specs.Write.{room-number, write-number}
 use Rattle.writelog.proofs.WriteLaws.{room-done, write-sound}
 use Rattle.tape.specs.Epoch.{flush-foretold, epoch-number}
 use Rattle.tape.specs.Predictable.{Predictable}

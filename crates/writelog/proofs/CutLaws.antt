@@ -10,8 +10,8 @@ use Rattle.region.proofs.AnswerLaws.{done-changed, refused-left}
 use Rattle.region.proofs.Booleans.{cond-when, cond-unless}
 use Rattle.replay.specs.Rows.{rows-right}
 use Rattle.records.specs.State.{sound, emptied}
-use Rattle.writelog.specs.Cut.{cut-report, cut-told, chunks, cut-number, cut-image, cut-kept, Cuts}
 use Rattle.records.specs.declared.state.State.{State}
+use Rattle.writelog.specs.Cut.{cut-report, cut-told, chunks, cut-number, cut-image, cut-kept, Cuts}
 use Rattle.writelog.specs.declared.cut.CutAnswer.the-variants.{Kept, Refused}
 
 pub kept-told : {k kept n : ℕ} → k ≡ kept → n ≡ 0 → cut-report (Kept k) ≡ cut-told kept n

@@ -10,8 +10,8 @@ use Rattle.region.proofs.AnswerLaws.{done-changed, refused-left}
 use Rattle.region.proofs.Booleans.{cond-when, cond-unless}
 use Rattle.replay.specs.AsyncSpec.{readable}
 use Rattle.records.specs.State.{view, sound, emptied}
-use Rattle.writelog.specs.Flush.{flush-number, Flushes}
 use Rattle.records.specs.declared.state.State.{State}
+use Rattle.writelog.specs.Flush.{flush-number, Flushes}
 
 module _ (image : List ℕ) (st : State) (log : List ℕ) where
   pub flush-sound : sound (length image) st (length log) ≡ true → flush-number image st log ≡ 0

@@ -8,8 +8,8 @@ use Rattle.region.specs.Answer.{unless}
 use Rattle.region.proofs.AnswerLaws.{passed}
 use Rattle.region.proofs.Booleans.{cond-when, cond-unless, and-unless, both, both-true}
 use Rattle.records.specs.State.{sound}
-use Rattle.writelog.specs.Read.{asked-number}
 use Rattle.records.specs.declared.state.State.{State}
+use Rattle.writelog.specs.Read.{asked-number}
 
 module _ (L : ℕ) (st : State) (log-length work-length addr len : ℕ) where
   abbrev fit : Bool

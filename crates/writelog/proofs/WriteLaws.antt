@@ -15,9 +15,9 @@ use Rattle.region.specs.declared.Answer.the-variants.{Done, Refused}
 use Rattle.region.proofs.AnswerLaws.{done-changed, refused-left, passed}
 use Rattle.region.proofs.Booleans.{cond-when, cond-unless}
 use Rattle.records.specs.State.{log-records, together, sound, appended}
+use Rattle.records.specs.declared.state.State.{State}
 use Rattle.records.proofs.Soundness.{Room}
 use Rattle.writelog.specs.Write.{room-number, write-number, Writes}
-use Rattle.records.specs.declared.state.State.{State}
 
 module _ (L : ℕ) (st : State) (addr n : ℕ) where
   abbrev many : ℕ

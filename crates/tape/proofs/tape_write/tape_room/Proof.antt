@@ -5,8 +5,8 @@ use mathlib.Core.Path.{_≡_, sym, ap, _∙_}
 use borrow.Author.Needs.{needs}
 use Rattle.region.specs.Answer.{answer-number}
 use Rattle.records.proofs.Soundness.{Room}
-use Rattle.writelog.proofs.WriteLaws.{room-done}
 use Rattle.writelog.specs.Write.{room-number}
+use Rattle.writelog.proofs.WriteLaws.{room-done}
 use Rattle.tape.proofs.NumberLaws.{tape-room-goes-on, tape-room-stops}
 use Rattle.tape.proofs.tape_write.tape_room.Statement.{statement}
 use Rattle.tape.proofs.tape_write.tape_room.Tie as tie

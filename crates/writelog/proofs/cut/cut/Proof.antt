@@ -2,23 +2,23 @@
 -- Assumes nothing.
 use Prim.Native.Nat.{ℕ, _*_}
 use native.Mathlib.Omega.{arith}
-use mathlib.Core.List.{List}
-use mathlib.Core.Bool.{true}
 use mathlib.Core.Path.{_≡_, sym, ap, _∙_}
+use mathlib.Core.Bool.{true}
+use mathlib.Core.List.{List}
 use lib.ListN.{length}
 use borrow.Author.Tests.{not-true, not-false, eqb-true}
 use borrow.Author.Needs.{needs}
-use Rattle.writelog.specs.Cut.{chunks, table-rows}
-use Rattle.records.specs.State.{log-records}
-use Rattle.replay.specs.Rows.{row-bytes, rows-right}
-use Rattle.replay.specs.AsyncSpec.{Write, flush-writes-selective}
 use Rattle.region.specs.Limits.{const-persistence-chunk-size}
 use Rattle.region.specs.declared.Refusal.the-variants.{BadState, BadRows}
 use Rattle.region.proofs.Booleans.{both}
-use Rattle.writelog.proofs.CutLaws.{cut-unsound, cut-bad-rows, cut-good, cuts-done, cuts-refused}
+use Rattle.replay.specs.Rows.{row-bytes, rows-right}
+use Rattle.replay.specs.AsyncSpec.{Write, flush-writes-selective}
+use Rattle.records.specs.State.{log-records}
 use Rattle.records.proofs.KeptLaws.{kept-by-records}
 use Rattle.records.proofs.Walk.{all-remain, all-writes}
 use Rattle.records.proofs.Soundness.{Told, told-bytes, told-unsound}
+use Rattle.writelog.specs.Cut.{chunks, table-rows}
+use Rattle.writelog.proofs.CutLaws.{cut-unsound, cut-bad-rows, cut-good, cuts-done, cuts-refused}
 use Rattle.writelog.proofs.cut.cut.Statement.{statement}
 use Rattle.writelog.proofs.cut.cut.Tie as tie
 

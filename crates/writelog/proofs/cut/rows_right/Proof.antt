@@ -4,13 +4,12 @@ use native.Mathlib.Omega.{arith}
 use native.Mathlib.Nat.{mul-le-mul}
 use mathlib.Core.Path.{_≡_, sym, ap, _∙_}
 use lib.ListN.{length}
-use lib.Dec.{eqb}
 use borrow.Author.Tests.{eq-eqb, ne-eqb}
 use borrow.Author.Needs.{needs}
 use Rattle.region.specs.Limits.{image-limit, writes-limit, const-persistence-chunk-size}
+use Rattle.region.proofs.Booleans.{and-when, and-unless}
 use Rattle.replay.specs.Rows.{row-bytes, rows-filled}
 use Rattle.replay.specs.AsyncSpec.{size-to-chunks}
-use Rattle.region.proofs.Booleans.{and-when, and-unless}
 use Rattle.writelog.proofs.cut.rows_right.Statement.{statement}
 use Rattle.writelog.proofs.cut.rows_right.Tie as tie
 
@@ -28,7 +27,8 @@ returns c =
     let row = c .before in
     let a = row .before .before .before .args in
     let K = size-to-chunks const-persistence-chunk-size (a .size) in
-    sym (and-unless (eqb (length (a .rows .now)) (a .n * row-bytes K)) (rows-filled K (a .n) (a .rows .now) 0) (ne-eqb (length (a .rows .now)) (a .n * row-bytes K) (λ e. c .if1 .taken (e ∙ ap (λ (w : ℕ). a .n * w) (sym (width-is row))))))
+    let other = ne-eqb (length (a .rows .now)) (a .n * row-bytes K) (λ e. c .if1 .taken (e ∙ ap (λ (w : ℕ). a .n * w) (sym (width-is row)))) in
+    sym (and-unless _ (rows-filled K (a .n) (a .rows .now) 0) other)
 
 rows-filled-requires : tie.Need-rows-filled-requires
 rows-filled-requires c κs =
@@ -43,8 +43,9 @@ returns-2 c =
     let row = c .before .before in
     let a = row .before .before .before .args in
     let K = size-to-chunks const-persistence-chunk-size (a .size) in
+    let same = eq-eqb (length (a .rows .now)) (a .n * row-bytes K) (c .before .if1 .left ∙ ap (λ (w : ℕ). a .n * w) (width-is row)) in
     c .rows-filled .ensures ∙ ap (λ (k : ℕ). rows-filled k (a .n) (a .rows .now) 0) (row .before .size-to-chunks .ensures)
-    ∙ sym (and-when (eqb (length (a .rows .now)) (a .n * row-bytes K)) (rows-filled K (a .n) (a .rows .now) 0) (eq-eqb (length (a .rows .now)) (a .n * row-bytes K) (c .before .if1 .left ∙ ap (λ (w : ℕ). a .n * w) (width-is row))))
+    ∙ sym (and-when _ (rows-filled K (a .n) (a .rows .now) 0) same)
 
 pub rows-right-spec : {M : Type 1} → statement M
 rows-right-spec =

@@ -1,12 +1,12 @@
 -- `writelog::flush::flush` meets its promise: a sound log is replayed whole over the image. Assumes nothing.
-use mathlib.Core.List.{List}
 use mathlib.Core.Path.{ap, _∙_}
+use mathlib.Core.List.{List}
 use lib.ListN.{length}
 use borrow.Author.Needs.{needs}
 use Rattle.replay.specs.AsyncSpec.{Write, committed, flush-writes}
-use Rattle.writelog.proofs.FlushLaws.{flushes-done, flushes-refused}
 use Rattle.records.proofs.Walk.{all-remain, all-writes}
 use Rattle.records.proofs.Soundness.{Told, told-bytes, told-unsound}
+use Rattle.writelog.proofs.FlushLaws.{flushes-done, flushes-refused}
 use Rattle.writelog.proofs.flush.flush.Statement.{statement}
 use Rattle.writelog.proofs.flush.flush.Tie as tie
 

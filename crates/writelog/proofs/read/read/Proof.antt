@@ -2,16 +2,16 @@
 use Prim.Native.Nat.{ℕ, _+_}
 use native.Mathlib.Omega.{arith}
 use native.Mathlib.Nat.{add-sub-cancel-left, add-zero, add-comm}
-use mathlib.Core.List.{List}
 use mathlib.Core.Path.{_≡_, refl, sym, ap, ap₂, _∙_}
+use mathlib.Core.List.{List}
 use lib.ListN.{length, take, drop}
 use borrow.Author.Needs.{needs}
-use Rattle.writelog.specs.Read.{read-number}
-use Rattle.records.specs.State.{view}
-use Rattle.replay.specs.AsyncSpec.{readable}
-use Rattle.region.proofs.AnswerLaws.{done-changed, refused-left, changed}
 use Rattle.region.specs.Pmemspec.{extract-bytes}
 use Rattle.region.specs.Answer.{answer-number}
+use Rattle.region.proofs.AnswerLaws.{done-changed, refused-left, changed}
+use Rattle.replay.specs.AsyncSpec.{readable}
+use Rattle.records.specs.State.{view}
+use Rattle.writelog.specs.Read.{read-number}
 use Rattle.writelog.proofs.ReadLaws.{Asked, asked-done}
 use Rattle.writelog.proofs.read.read.Statement.{statement}
 use Rattle.writelog.proofs.read.read.Tie as tie

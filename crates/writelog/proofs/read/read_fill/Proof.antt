@@ -1,19 +1,19 @@
 -- `writelog::read::read_fill` meets its promise: the image is laid over the working image, and the log replayed over that. Assumes nothing.
 use Prim.Native.Nat.{ℕ}
 use native.Mathlib.Omega.{arith}
+use mathlib.Core.Path.{_≡_, sym, ap, ap₂, subst⁻¹, _∙_}
 use mathlib.Core.List.{List}
-use mathlib.Core.Path.{_≡_, sym, ap, subst⁻¹, _∙_}
 use lib.ListN.{length}
 use borrow.Author.Needs.{needs}
-use Rattle.writelog.specs.Read.{read-number}
-use Rattle.records.specs.Log.{last-writes, Remaining}
-use Rattle.replay.proofs.Laid.{update-whole}
-use Rattle.replay.specs.AsyncSpec.{Write, committed, flush-writes}
-use Rattle.region.proofs.AnswerLaws.{done-changed, refused-left}
 use Rattle.region.specs.Answer.{answer-number}
-use Rattle.writelog.proofs.ReadLaws.{Asked, asked-done}
+use Rattle.region.proofs.AnswerLaws.{done-changed, refused-left}
+use Rattle.replay.specs.AsyncSpec.{Write, committed, flush-writes}
+use Rattle.replay.proofs.Laid.{update-whole}
+use Rattle.records.specs.Log.{Remaining}
 use Rattle.records.proofs.Walk.{all-remain, all-writes}
 use Rattle.records.proofs.Soundness.{sound-facts}
+use Rattle.writelog.specs.Read.{read-number}
+use Rattle.writelog.proofs.ReadLaws.{Asked, asked-done}
 use Rattle.writelog.proofs.read.read_fill.Statement.{statement}
 use Rattle.writelog.proofs.read.read_fill.Tie as tie
 
@@ -32,9 +32,9 @@ asked-here c = asked-done (done-here c)
 
 returns : tie.Need-returns
 returns c =
-    let asked = c .before .before in
-    let a = asked .before .before .before .before .args in
-    record { answers = asked .asked .ensures .0; work-after = refused-left (c .enum-told2 .given .0 .0) _ (sym (asked .asked .ensures .0) ∙ ap answer-number (c .enum-told2 .given .1)) }
+    let answers = c .before .before .asked .ensures .0 in
+    let why = c .enum-told2 .given in
+    record { answers = answers; work-after = refused-left (why .0 .0) _ (sym answers ∙ ap answer-number (why .1)) }
 
 lay-requires : tie.Need-lay-requires
 lay-requires c κs = omega (arith, asked-here (c .before) .whole)
@@ -42,14 +42,22 @@ lay-requires c κs = omega (arith, asked-here (c .before) .whole)
 replay-whole-requires : tie.Need-replay-whole-requires
 replay-whole-requires c κs =
     let told = c .before .before .before .before .before in
-    let a = told .before .before .before .before .before .before .args in
-    subst⁻¹ (λ (n : ℕ). Remaining n (a .state) (length (a .log .now)) 0 (a .state .count)) (c .before .before .before .lay .kept .0 ∙ asked-here told .whole) (all-remain (length (a .image .now)) (a .state) (length (a .log .now)) (told .before .before .asked .ensures .1) (sound-facts _ (a .state) _ (asked-here told .good)))
+    let a = start told .args in
+    let walk = all-remain _ (a .state) _ (told .before .before .asked .ensures .1) (sound-facts _ (a .state) _ (asked-here told .good)) in
+    subst⁻¹ (λ (n : ℕ). Remaining n (a .state) (length (a .log .now)) 0 (a .state .count)) (c .before .before .before .lay .kept .0 ∙ asked-here told .whole) walk
 
 returns-2 : tie.Need-returns-2
 returns-2 c =
     let told = c .before .before .before .before .before .before .before .before in
-    let a = told .before .before .before .before .before .before .args in
-    record { answers = told .before .before .asked .ensures .0; work-after = c .before .before .replay-whole .ensures ∙ ap (λ (w : List ℕ). committed (flush-writes w (last-writes (a .state) (a .state .count) (a .log .now) 0))) (c .before .before .before .before .before .before .lay .ensures ∙ update-whole (a .work .now) (a .image .now) (asked-here told .whole)) ∙ ap (λ (ws : List Write). committed (flush-writes (a .image .now) ws)) (all-writes (a .state) (a .log .now)) ∙ done-changed _ (done-here told) }
+    let a = start told .args in
+    let laid = c .before .before .before .before .before .before .lay .ensures ∙ update-whole (a .work .now) (a .image .now) (asked-here told .whole) in
+    record {
+      answers = told .before .before .asked .ensures .0;
+      work-after =
+          c .before .before .replay-whole .ensures
+          ∙ ap₂ (λ (w : List ℕ) (ws : List Write). committed (flush-writes w ws)) laid (all-writes (a .state) (a .log .now))
+          ∙ done-changed _ (done-here told);
+    }
 
 pub read-fill-spec : {M : Type 1} → statement M
 read-fill-spec =

@@ -5,11 +5,11 @@ use native.Mathlib.Omega.{arith}
 use mathlib.Core.Path.{_≡_, refl, sym, ap, _∙_}
 use lib.ListN.{length}
 use borrow.Author.Needs.{needs}
-use Rattle.writelog.specs.Write.{write-number}
 use Rattle.region.specs.declared.Refusal.the-variants.{BadState}
 use Rattle.region.specs.Pmemspec.{update-bytes}
 use Rattle.region.specs.Answer.{answer-number}
 use Rattle.records.proofs.Soundness.{Told, told-bytes, told-unsound, Room}
+use Rattle.writelog.specs.Write.{write-number}
 use Rattle.writelog.proofs.WriteLaws.{room-done, write-unsound, write-sound, writes-done, writes-refused}
 use Rattle.writelog.proofs.write.write.Statement.{statement}
 use Rattle.writelog.proofs.write.write.Tie as tie
