@@ -7,16 +7,15 @@ use mathlib.Core.Bool.{true}
 use mathlib.Core.List.{List}
 use lib.ListN.{length}
 use Rattle.region.specs.Limits.{writes-limit, const-persistence-chunk-size}
-use Rattle.region.specs.Pmemspec.{update-bytes}
 use Rattle.region.specs.Answer.{answer-number}
 use Rattle.region.specs.declared.Refusal.{Refusal}
 use Rattle.region.specs.declared.Answer.{Answer}
 use Rattle.region.specs.declared.Answer.the-variants.{Done}
-use Rattle.region.proofs.AnswerLaws.{answers-by-number, changed, not-done, refusal-not-done}
+use Rattle.region.proofs.AnswerLaws.{answers-by-number, changed, left, refusal-not-done}
 use Rattle.replay.specs.AsyncSpec.{write, readable, can-crash}
 use Rattle.cuts.proofs.Always.{cut-of-nothing}
 use Rattle.sheet.specs.Sheet.{obeys}
-use Rattle.records.specs.State.{log-records, together, view, appended, emptied}
+use Rattle.records.specs.State.{view, appended, log-with, emptied}
 use Rattle.writelog.specs.Write.{write-number}
 use Rattle.records.specs.declared.state.State.{State}
 use Rattle.records.proofs.Soundness.{Sound, sound-facts, Room}
@@ -25,7 +24,7 @@ use Rattle.records.proofs.Views.{view-of-recorded, sound-after-recorded, sized-
 use Rattle.gate.specs.declared.Verdict.{Verdict}
 use Rattle.gate.specs.declared.Verdict.the-variants.{Admitted, Refused}
 use Rattle.gate.specs.Opening.{fresh, Opens}
-use Rattle.gate.specs.Judgement.{verdict-report, judge-number, Judges, Gates}
+use Rattle.gate.specs.Judgement.{verdict-report, Judges, Gates}
 use Rattle.gate.specs.Meaning.{Fits, Openable}
 use Rattle.gate.proofs.OpeningLaws.{opens-exactly-if}
 use Rattle.gate.proofs.JudgementLaws.{fits-room, admitted-number, not-admitted-number, refused-work}
@@ -36,10 +35,6 @@ pub record Holds (image : List ℕ) (st : State) (log sheet : List ℕ) : Type 0
   pub sized : length (st .records) ≡ writes-limit
   pub facts : Sound (length image) st (length log)
   pub all-obey : (x : List ℕ) → can-crash const-persistence-chunk-size (view image st log) x → obeys sheet x x ≡ true
-
--- the log buffer with a recorded write's bytes
-abbrev log-with : State → List ℕ → List ℕ → List ℕ
-log-with st log bytes = update-bytes log (together (log-records st)) bytes
 
 -- an empty log over an image that obeys
 pub empty-holds : (image : List ℕ) (st : State) (log sheet : List ℕ) → length (st .records) ≡ writes-limit → Openable image log sheet → Holds image (emptied st) log sheet
@@ -117,8 +112,8 @@ module _ (image : List ℕ) (st : State) (log sheet work : List ℕ) (addr : ℕ
     pub not-admitted-left : 0 < verdict-report answer .number → (st′ ≡ st) × (log′ ≡ log)
     not-admitted-left h =
         let some = not-admitted-number (gate-judges image st log sheet work addr bytes g) h in (
-          g .state-after ∙ not-done (judge-number image st log sheet work addr bytes) (appended st addr (length bytes)) st some,
-          g .log-after ∙ not-done (judge-number image st log sheet work addr bytes) (log-with st log bytes) log some,
+          left _ (g .state-after) some refl,
+          left _ (g .log-after) some refl,
         )
 
     pub gate-refused-left : {why : Refusal} → answer ≡ Refused why → (st′ ≡ st) × (log′ ≡ log) × (work′ ≡ work)

@@ -228,8 +228,8 @@ module _ {image : List ℕ} {st : State} {log sheet work : List ℕ} {addr : ℕ
         let some = not-admitted-number h in
         record {
           answers = j .answers;
-          state-after = sym (not-done (judge-number image st log sheet work addr bytes) (appended st addr (length bytes)) st some);
-          log-after = sym (not-done (judge-number image st log sheet work addr bytes) (update-bytes log (together (log-records st)) bytes) log some);
+          state-after = sym (not-done _ _ _ some);
+          log-after = sym (not-done _ _ _ some);
           work-after = j .work-after;
         }
 
