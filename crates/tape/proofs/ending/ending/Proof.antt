@@ -16,9 +16,12 @@ use Rattle.tape.proofs.EpochLaws.{epoch-facts}
 use Rattle.tape.proofs.ending.ending.Statement.{statement}
 use Rattle.tape.proofs.ending.ending.Tie as tie
 
--- the function's entry, from where the test of the state was passed
+-- the places: the function's entry, from where the test of the state was passed, and that of the lengths, from where the epoch was right
 abbrev start : tie.After-enum-told → tie.Start
 start c = c .before .before .before .before
+
+abbrev tested : tie.After-enum-told3 → tie.Else1
+tested c = c .before .before .before
 
 -- what the test of the state told
 told-here : (c : tie.After-enum-told) → let a = start c .args in Told (a .size) (a .state) (a .log) (c .enum-told .given .0 .0)
@@ -29,9 +32,6 @@ sound-here : (c : tie.Else1) → let a = start (c .before) .args in tape-sound (
 sound-here c = tape-sound-there _ (start (c .before) .args .state) _ _ (told-here (c .before) .good) (c .if1 .left)
 
 -- and past the epoch's, 10 and 9
-abbrev tested : tie.After-enum-told3 → tie.Else1
-tested c = c .before .before .before
-
 epoch-none : (c : tie.After-enum-told3) → let a = start (tested c .before) .args in
     epoch-number (size-to-chunks const-persistence-chunk-size (a .size)) (a .state .count) (a .tape .now) (a .start) ≡ 0
 epoch-none c = sym (c .before .before .epoch .ensures) ∙ ap answer-number (c .enum-told3 .given .1)

@@ -1,5 +1,5 @@
--- `tape::tape_write::tape_write` meets its promise: where there is room, and a right row for it, the write is recorded as the plain write does it and the image is predicted
--- with it in the log. Assumes nothing.
+-- `tape::tape_write::tape_write` meets its promise: where there is room, and a right row for it, the write is recorded as the plain write does it and
+-- the image is predicted with it in the log. Assumes nothing.
 use Prim.Native.Nat.{ℕ}
 use native.Mathlib.Omega.{arith}
 use mathlib.Core.Path.{_≡_, refl, sym, ap, ap₂, subst⁻¹, _∙_}
@@ -21,7 +21,7 @@ use Rattle.tape.proofs.PromiseLaws.{tape-writes-done, tape-writes-refus
 use Rattle.tape.proofs.tape_write.tape_write.Statement.{statement}
 use Rattle.tape.proofs.tape_write.tape_write.Tie as tie
 
--- the places: the function's entry, from where the test of the state was passed, and the two tests before there was room
+-- the places: the function's entry, from where the test of the state was passed, and the test of the lengths, from where there was room
 abbrev start : tie.After-known-told → tie.Start
 start c = c .before .before .before .before .before .before .before .before .before
 
