@@ -66,15 +66,18 @@ module _ (words image log sheet work : List ℕ) (addr : ℕ) (bytes : List ℕ)
         report-after = wrong words report report-at n;
       }
 
-  module _ (sized : length words ≡ state-words) {st : State} (verdict : Verdict) {number report′ : ℕ} (loaded : st ≡ state-of words) (told : number ≡ verdict-report verdict .number) (reports : report′ ≡ reported (verdict-report verdict) report) where
+  module _ (sized : length words ≡ state-words) {st : State} (verdict : Verdict) {number report′ : ℕ}
+      (loaded : st ≡ state-of words) (told : number ≡ verdict-report verdict .number) (reports : report′ ≡ reported (verdict-report verdict) report) where
     -- what the number and the report say, from what the verdict does
-    number-right : verdict-report verdict ≡ judge-report image (state-of words) log sheet work addr bytes → number ≡ skaldrift-judge-number words image log sheet work addr bytes
+    number-right : verdict-report verdict ≡ judge-report image (state-of words) log sheet work addr bytes
+        → number ≡ skaldrift-judge-number words image log sheet work addr bytes
     number-right answers = told ∙ ap (λ (r : Report). r .number) answers ∙ right words 1 judge-at sized
 
     report-right : verdict-report verdict ≡ judge-report image (state-of words) log sheet work addr bytes → report′ ≡ of-state words report report-at
     report-right answers = reports ∙ ap (λ (r : Report). reported r report) answers ∙ right words report report-at sized
 
-    pub judge-right : {work′ : List ℕ} → Judges image st log sheet work addr bytes verdict work′ → SkaldriftJudge words image log sheet work addr bytes report number work′ report′
+    pub judge-right : {work′ : List ℕ} → Judges image st log sheet work addr bytes verdict work′
+        → SkaldriftJudge words image log sheet work addr bytes report number work′ report′
     judge-right {work′} call =
         let here = subst (λ (s : State). Judges image s log sheet work addr bytes verdict work′) loaded call in
         record {

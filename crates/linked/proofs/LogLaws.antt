@@ -102,13 +102,17 @@ module _ (words image log rows : List ℕ) (report : ℕ) where
       }
 
   pub cut-right : length words ≡ state-words → {st st′ : State} {answer : CutAnswer} {number report′ : ℕ} {words′ image′ : List ℕ}
-      → st ≡ state-of words → Cuts image st log rows answer st′ image′ → words′ ≡ words-of st′ → number ≡ cut-report answer .number → report′ ≡ reported (cut-report answer) report
+      → st ≡ state-of words → Cuts image st log rows answer st′ image′ → words′ ≡ words-of st′
+      → number ≡ cut-report answer .number → report′ ≡ reported (cut-report answer) report
       → SkaldriftCut words image log rows report number words′ image′ report′
   cut-right sized {st} {st′} {answer} {number} {report′} {words′} {image′} loaded call stored told reports =
       let here = subst (λ (s : State). Cuts image s log rows answer st′ image′) loaded call in
+      let pieces = cut-kept image (state-of words) log rows in
       record {
         answers = told ∙ ap (λ (r : Report). r .number) (here .answers) ∙ right words 1 cut-at sized;
         words-after = stored ∙ right-words words cut-at sized (emptied (state-of words)) (here .state-after);
         image-after = right-by words cut-at sized (cut-image image (state-of words) log rows) image (here .image-after);
-        report-after = right-by words cut-at sized (cut-kept image (state-of words) log rows) report (reports ∙ ap (λ (r : Report). reported r report) (here .answers) ∙ report-by (cut-at (state-of words)) (cut-kept image (state-of words) log rows) report);
+        report-after =
+            right-by words cut-at sized pieces report
+            (reports ∙ ap (λ (r : Report). reported r report) (here .answers) ∙ report-by (cut-at (state-of words)) pieces report);
       }

@@ -95,7 +95,8 @@ epoch-answers K n tape start =
     tested (epoch-there K n tape start) BadTape _
     (tested (rows-filled K n tape (start + 1)) BadRows 0 all-done)
 
-pub tape-write-answers : (image : List ℕ) (st : State) (log tape : List ℕ) (start : ℕ) (predicted : List ℕ) (addr n : ℕ) → Answers (tape-write-number image st log tape start predicted addr n)
+pub tape-write-answers : (image : List ℕ) (st : State) (log tape : List ℕ) (start : ℕ) (predicted : List ℕ) (addr n : ℕ)
+    → Answers (tape-write-number image st log tape start predicted addr n)
 unfolding tape-write-number tape-room-number
 tape-write-answers image st log tape start predicted addr n =
     tested (tape-sound (length image) st (length log) (length predicted)) BadState _
@@ -103,7 +104,8 @@ tape-write-answers image st log tape start predicted addr n =
     (room-answers (length image) st addr n)
     (epoch-answers (size-to-chunks const-persistence-chunk-size (length image)) (st .count + 1) tape start))
 
-pub ending-answers : (flushing : Bool) (L : ℕ) (st : State) (log-length : ℕ) (tape : List ℕ) (start predicted-length : ℕ) → Answers (ending-number flushing L st log-length tape start predicted-length)
+pub ending-answers : (flushing : Bool) (L : ℕ) (st : State) (log-length : ℕ) (tape : List ℕ) (start predicted-length : ℕ)
+    → Answers (ending-number flushing L st log-length tape start predicted-length)
 unfolding ending-number
 ending-answers flushing L st log-length tape start predicted-length =
     tested (tape-sound L st log-length predicted-length) BadState _

@@ -31,7 +31,8 @@ module _ (words image log tape : List ℕ) (start : ℕ) (predicted : List ℕ) 
   abbrev predicted-written : List ℕ
   predicted-written = predicted-with image (state-of words) log tape start addr bytes
 
-  pub tape-write-wrong : (length words ≡ state-words → ⊥) → {number : ℕ} → number ≡ 1 → SkaldriftTapeWrite words image log tape start predicted addr bytes number words log predicted
+  pub tape-write-wrong : (length words ≡ state-words → ⊥) → {number : ℕ} → number ≡ 1
+      → SkaldriftTapeWrite words image log tape start predicted addr bytes number words log predicted
   tape-write-wrong n told =
       record {
         answers = told ∙ wrong words 1 write-at n;
@@ -65,7 +66,8 @@ module _ (words image log tape : List ℕ) (start : ℕ) (predicted : List ℕ) 
   abbrev read-image : List ℕ
   read-image = readable (view image (state-of words) log)
 
-  pub tape-flush-wrong : (length words ≡ state-words → ⊥) → {number : ℕ} → number ≡ 1 → SkaldriftTapeFlush words image log tape start predicted number words image start predicted
+  pub tape-flush-wrong : (length words ≡ state-words → ⊥) → {number : ℕ} → number ≡ 1
+      → SkaldriftTapeFlush words image log tape start predicted number words image start predicted
   tape-flush-wrong n told =
       record {
         answers = told ∙ wrong words 1 flush-at n;
@@ -98,7 +100,8 @@ module _ (words image log tape : List ℕ) (start : ℕ) (predicted : List ℕ) 
   pieces = tape-kept image (state-of words) log tape start
 
   module _ (report : ℕ) where
-    pub tape-cut-wrong : (length words ≡ state-words → ⊥) → {number : ℕ} → number ≡ 1 → SkaldriftTapeCut words image log tape start predicted report number words image start predicted report
+    pub tape-cut-wrong : (length words ≡ state-words → ⊥) → {number : ℕ} → number ≡ 1
+        → SkaldriftTapeCut words image log tape start predicted report number words image start predicted report
     tape-cut-wrong n told =
         record {
           answers = told ∙ wrong words 1 cut-at n;
@@ -121,5 +124,7 @@ module _ (words image log tape : List ℕ) (start : ℕ) (predicted : List ℕ) 
           image-after = right-by words cut-at sized foretold-image image (here .image-after);
           start-after = right-by words cut-at sized start-moved start (here .start-after);
           predicted-after = right-by words cut-at sized foretold-image predicted (here .predicted-after);
-          report-after = right-by words cut-at sized pieces report (reports ∙ ap (λ (r : Report). reported r report) (here .answers) ∙ report-by (cut-at (state-of words)) pieces report);
+          report-after =
+              right-by words cut-at sized pieces report
+              (reports ∙ ap (λ (r : Report). reported r report) (here .answers) ∙ report-by (cut-at (state-of words)) pieces report);
         }

@@ -40,7 +40,8 @@ every-crash-is-a-cut image st log sized s x c =
     let table = found .0 in
     let counted = writes-counted image st log (omega (arith, sized, s .few)) in
     let right : rows-right (chunks image) (st .count) table ≡ true = subst (λ (n : ℕ). rows-right (chunks image) n table ≡ true) counted (found .2) in
-    let leaves : x ≡ cut-image image st log table = found .3 ∙ ap (λ (n : ℕ). flush-selective const-persistence-chunk-size (view image st log) (rows-at (chunks image) n table 0)) counted in
+    let leaves : x ≡ cut-image image st log table
+    = found .3 ∙ ap (λ (n : ℕ). flush-selective const-persistence-chunk-size (view image st log) (rows-at (chunks image) n table 0)) counted in
     (table, found .1, cuts-done (cut-good image st log table (facts-sound (length image) st (length log) s) right) refl refl leaves)
 
 -- what holds along a run
