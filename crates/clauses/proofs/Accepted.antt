@@ -2,7 +2,7 @@
 -- its answer. One law for each promise, from that promise alone. Assumes nothing.
 use Prim.Native.Nat.{ℕ, zero, suc}
 use mathlib.Core.Path.{_≡_, refl, sym, ap, subst⁻¹, _∙_}
-use mathlib.Core.Bool.{true, false}
+use mathlib.Core.Bool.{true}
 use mathlib.Core.List.{List}
 use lib.ListN.{length, set, length-set}
 use Rattle.region.specs.Limits.{const-persistence-chunk-size, writes-limit}
