@@ -33,11 +33,11 @@ use Rattle.gate.proofs.Gives.{opened-holds, gate-refused-left}
 use Rattle.tape.specs.Write.{tape-write-number, TapeWrites}
 use Rattle.tape.specs.Flush.{tape-flush-number, TapeFlushes}
 use Rattle.tape.specs.Cut.{tape-cut-number, TapeCuts}
-use Rattle.tape.specs.Foretold.{predicted-image}
-use Rattle.tape.proofs.EpochLaws.{Epoch}
-use Rattle.tape.proofs.Foretells.{foretold-is-valid}
+use Rattle.epochs.specs.Foretold.{predicted-image}
+use Rattle.epochs.proofs.EpochLaws.{Epoch}
+use Rattle.epochs.proofs.Foretells.{foretold-is-valid}
 use Rattle.tape.proofs.NumberLaws.{tape-write-done, ending-done}
-use Rattle.tape.proofs.PredictLaws.{predicted-cut}
+use Rattle.epochs.proofs.PredictLaws.{predicted-cut}
 use Rattle.example.specs.Setup.{setup-number, SetsUp}
 use Rattle.example.specs.Run.{run-number, if-any-round, Runs}
 use Rattle.example.specs.declared.RunAnswer.{RunAnswer}

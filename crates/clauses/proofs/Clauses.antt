@@ -37,8 +37,8 @@ use Rattle.writelog.proofs.WriteLaws.{room-done}
 use Rattle.records.proofs.Views.{writes-counted, view-of-recorded, view-of-emptied}
 use Rattle.gate.specs.Opening.{fresh, Opens}
 use Rattle.gate.proofs.Gives.{opened-fresh}
-use Rattle.tape.specs.Foretold.{foretold}
-use Rattle.tape.proofs.Foretells.{foretold-of-nothing}
+use Rattle.epochs.specs.Foretold.{foretold}
+use Rattle.epochs.proofs.Foretells.{foretold-of-nothing}
 
 -- `serialize_and_write` of pmem_async_spec_t.rs, without the object: what a write inside the region put there is read back
 pub written-is-read : (v : AsyncView) (addr : ℕ) (bytes : List ℕ) → addr + length bytes ≤ len v → extract-bytes (readable (write v addr bytes)) addr (length bytes) ≡ bytes

@@ -13,7 +13,7 @@ use Rattle.writelog.specs.Flush.{flush-number}
 use Rattle.writelog.specs.Cut.{cut-number}
 use Rattle.gate.specs.Opening.{open-number}
 use Rattle.gate.specs.Judgement.{judgement}
-use Rattle.tape.specs.Epoch.{epoch-number}
+use Rattle.epochs.specs.Epoch.{epoch-number}
 use Rattle.tape.specs.Write.{tape-room-number, tape-write-number}
 use Rattle.tape.specs.Ending.{ending-number}
 use Rattle.session.specs.History.{happen, replay}

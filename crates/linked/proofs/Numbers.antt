@@ -30,7 +30,7 @@ use Rattle.gate.specs.Opening.{open-number}
 use Rattle.gate.specs.Judgement.{verdict-report, Judgement, refused, tried, gate-points, weighed, judgement, judgement-report, judge-report}
 use Rattle.gate.specs.declared.Verdict.{Verdict}
 use Rattle.gate.specs.declared.Verdict.the-variants as verdict
-use Rattle.tape.specs.Epoch.{epoch-there, epoch-number}
+use Rattle.epochs.specs.Epoch.{epoch-there, epoch-number}
 use Rattle.tape.specs.Write.{or-else, tape-sound, tape-room-number, tape-write-number}
 use Rattle.tape.specs.Ending.{as-foretold, ending-number}
 use Rattle.example.specs.Setup.{setup-number}

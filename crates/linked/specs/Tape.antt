@@ -8,7 +8,8 @@ use Rattle.region.specs.Answer.{if-done}
 use Rattle.replay.specs.AsyncSpec.{readable}
 use Rattle.records.specs.State.{view, appended, log-with, emptied}
 use Rattle.tape.specs.Write.{tape-write-number, predicted-with}
-use Rattle.tape.specs.Ending.{next-start, predicted-now}
+use Rattle.epochs.specs.Foretold.{predicted-now}
+use Rattle.tape.specs.Ending.{next-start}
 use Rattle.tape.specs.Flush.{tape-flush-number}
 use Rattle.tape.specs.Cut.{tape-cut-number, tape-kept}
 use Rattle.words.specs.Words.{state-of, words-of, of-state}

@@ -38,7 +38,7 @@ use Rattle.tape.specs.Flush.{TapeFlushes}
 use Rattle.tape.specs.Cut.{TapeCuts}
 use Rattle.records.proofs.Views.{writes-counted}
 use Rattle.tape.proofs.NumberLaws.{ending-done}
-use Rattle.tape.proofs.PredictLaws.{predicted-cut}
+use Rattle.epochs.proofs.PredictLaws.{predicted-cut}
 use Rattle.session.specs.History.{Event, nothing, written, flushed, cut-by, reopened, if-answered, if-admitted, if-cut, rows-there, none-kept, happen, settled}
 use Rattle.session.specs.Run as run
 use Rattle.session.specs.Run.{Desk, desk, seen, Step}

@@ -19,7 +19,7 @@ use Rattle.gate.specs.Opening.{Opens}
 use Rattle.gate.specs.Judgement.{Judges}
 use Rattle.gate.specs.declared.Verdict.the-variants.{Admitted}
 use Rattle.gate.proofs.Gives.{opened-fresh}
-use Rattle.tape.specs.Foretold.{predicted-image}
+use Rattle.epochs.specs.Foretold.{predicted-image}
 use Rattle.tape.specs.Write.{TapeWrites}
 use Rattle.tape.specs.Flush.{TapeFlushes}
 use Rattle.tape.specs.Cut.{TapeCuts}

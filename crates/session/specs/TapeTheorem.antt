@@ -12,8 +12,8 @@ use Rattle.replay.specs.AsyncSpec.{AsyncView, write}
 use Rattle.cuts.specs.Bits.{chunks}
 use Rattle.records.specs.declared.state.State.{State}
 use Rattle.writelog.specs.declared.cut.CutAnswer.the-variants.{Kept}
-use Rattle.tape.specs.Epoch.{row-place}
-use Rattle.tape.specs.Foretold.{predicted-image}
+use Rattle.epochs.specs.Epoch.{row-place}
+use Rattle.epochs.specs.Foretold.{predicted-image}
 use Rattle.tape.specs.Write.{TapeWrites}
 use Rattle.tape.specs.Flush.{TapeFlushes}
 use Rattle.tape.specs.Cut.{TapeCuts}

@@ -25,14 +25,14 @@ use Rattle.writelog.specs.Cut.{cut-told, chunks, cut-number, cut-kept, cut-imag
 use Rattle.writelog.specs.declared.cut.CutAnswer.{CutAnswer}
 use Rattle.writelog.proofs.FlushLaws.{flush-sound}
 use Rattle.writelog.proofs.CutLaws.{cut-good}
-use Rattle.tape.specs.Epoch.{epoch-rows}
+use Rattle.epochs.specs.Epoch.{epoch-rows}
 use Rattle.tape.specs.Write.{tape-write-number, TapeWrites}
-use Rattle.tape.specs.Ending.{predicted-now}
+use Rattle.epochs.specs.Foretold.{predicted-now}
 use Rattle.tape.specs.Flush.{tape-flush-number, TapeFlushes}
 use Rattle.tape.specs.Cut.{tape-cut-number, tape-kept, TapeCuts}
 use Rattle.tape.proofs.NumberLaws.{plainly-done, ending-done}
-use Rattle.tape.proofs.PredictLaws.{predicted-cut}
-use Rattle.tape.proofs.RowsLaws.{rows-of-part, rows-filled-of-part, rows-before, rows-filled-before}
+use Rattle.epochs.proofs.PredictLaws.{predicted-cut}
+use Rattle.epochs.proofs.RowsLaws.{rows-of-part, rows-filled-of-part, rows-before, rows-filled-before}
 
 abbrev C : ℕ
 C = const-persistence-chunk-size

@@ -20,14 +20,13 @@ use Rattle.records.specs.State.{view, sound}
 use Rattle.records.specs.declared.state.State.{State}
 use Rattle.records.proofs.Soundness.{sound-facts}
 use Rattle.records.proofs.Views.{writes-counted}
-use Rattle.tape.specs.Epoch.{flush-foretold, epoch-rows, epoch-number}
-use Rattle.tape.specs.Foretold.{foretold, predicted-image}
-use Rattle.tape.specs.Ending.{predicted-now}
+use Rattle.epochs.specs.Epoch.{flush-foretold, epoch-rows, epoch-number}
+use Rattle.epochs.specs.Foretold.{foretold, predicted-image, predicted-now}
 use Rattle.tape.specs.Cut.{tape-cut-number}
-use Rattle.tape.specs.Future.{Foreseen, TellsEpoch, epoch-bytes}
-use Rattle.tape.proofs.Futures.{bytes-of-epoch, epoch-tells}
+use Rattle.epochs.specs.Future.{Foreseen, TellsEpoch, epoch-bytes}
+use Rattle.epochs.proofs.Futures.{bytes-of-epoch, epoch-tells}
 use Rattle.tape.proofs.NumberLaws.{tape-sound-there, ending-foretold}
-use Rattle.tape.proofs.Foretells.{foretold-cut-is-a-crash}
+use Rattle.epochs.proofs.Foretells.{foretold-cut-is-a-crash}
 
 -- a tape whose epoch at `start` is right for the log and resolves the original's prophecies so
 pub record Resolves (C : ℕ) (v : AsyncView) (tape : List ℕ) (start : ℕ) (flushing : Bool) (rows : List (List Bool)) : Type 0 where

@@ -19,11 +19,11 @@ use Rattle.records.proofs.Views.{sized-of-appended, sound-of-appended}
 use Rattle.records.proofs.Walk.{all-remain}
 use Rattle.writelog.specs.Write.{room-number, write-number}
 use Rattle.writelog.proofs.WriteLaws.{room-done, write-sound}
-use Rattle.tape.specs.Epoch.{flush-foretold, epoch-number}
-use Rattle.tape.specs.Predictable.{Predictable}
+use Rattle.epochs.specs.Epoch.{flush-foretold, epoch-number}
+use Rattle.epochs.specs.Predictable.{Predictable}
 use Rattle.tape.specs.Write.{or-else, tape-sound, tape-room-number, tape-write-number}
 use Rattle.tape.specs.Ending.{as-foretold, ending-number}
-use Rattle.tape.proofs.EpochLaws.{Epoch, epoch-facts}
+use Rattle.epochs.proofs.EpochLaws.{Epoch, epoch-facts}
 use Rattle.records.proofs.Views.{sized-of-appended, sound-of-appended}
 
 -- the chunks of an image of L bytes

@@ -14,7 +14,8 @@ use Rattle.records.specs.declared.state.State.{State}
 use Rattle.writelog.specs.declared.cut.CutAnswer.the-variants as cut-answer
 use Rattle.writelog.proofs.CutLaws.{kept-told, refused-told}
 use Rattle.tape.specs.Write.{tape-write-number, predicted-with, TapeWrites}
-use Rattle.tape.specs.Ending.{next-start, predicted-now}
+use Rattle.epochs.specs.Foretold.{predicted-now}
+use Rattle.tape.specs.Ending.{next-start}
 use Rattle.tape.specs.Flush.{tape-flush-number, TapeFlushes}
 use Rattle.tape.specs.Cut.{tape-cut-number, tape-kept, TapeCuts}
 

@@ -16,15 +16,15 @@ use Rattle.records.specs.State.{view, appended, log-with, emptied}
 use Rattle.records.specs.declared.state.State.{State}
 use Rattle.records.proofs.Views.{view-of-recorded, view-of-emptied, writes-counted}
 use Rattle.writelog.specs.declared.cut.CutAnswer.{CutAnswer}
-use Rattle.tape.specs.Epoch.{epoch-rows, row-place}
-use Rattle.tape.specs.Foretold.{foretold, predicted-image}
+use Rattle.epochs.specs.Epoch.{epoch-rows, row-place}
+use Rattle.epochs.specs.Foretold.{foretold, predicted-image}
 use Rattle.tape.specs.Write.{tape-write-number, TapeWrites}
 use Rattle.tape.specs.Ending.{next-start}
 use Rattle.tape.specs.Flush.{tape-flush-number, TapeFlushes}
 use Rattle.tape.specs.Cut.{tape-cut-number, TapeCuts}
 use Rattle.tape.proofs.NumberLaws.{tape-write-done, ending-done}
-use Rattle.tape.proofs.Foretells.{predicted-of-nothing, foretold-of-a-write, foretold-flush-is-predicted, foretold-cut-is-a-crash}
-use Rattle.tape.proofs.PredictLaws.{predicted-flush}
+use Rattle.epochs.proofs.Foretells.{predicted-of-nothing, foretold-of-a-write, foretold-flush-is-predicted, foretold-cut-is-a-crash}
+use Rattle.epochs.proofs.PredictLaws.{predicted-flush}
 
 abbrev C : ℕ
 C = const-persistence-chunk-size

@@ -11,8 +11,9 @@ use Rattle.records.specs.State.{view, emptied}
 use Rattle.writelog.specs.Cut.{cut-report, cut-told, chunks}
 use Rattle.records.specs.declared.state.State.{State}
 use Rattle.writelog.specs.declared.cut.CutAnswer.{CutAnswer}
-use Rattle.tape.specs.Epoch.{epoch-rows}
-use Rattle.tape.specs.Ending.{ending-number, next-start, predicted-now}
+use Rattle.epochs.specs.Epoch.{epoch-rows}
+use Rattle.epochs.specs.Foretold.{predicted-now}
+use Rattle.tape.specs.Ending.{ending-number, next-start}
 
 abbrev pub tape-cut-number : List ℕ → State → List ℕ → List ℕ → ℕ → List ℕ → ℕ
 tape-cut-number image st log tape start predicted = ending-number false (length image) st (length log) tape start (length predicted)

@@ -5,10 +5,8 @@ use mathlib.Core.List.{List}
 use Rattle.region.specs.Limits.{const-persistence-chunk-size}
 use Rattle.region.specs.Answer.{unless}
 use Rattle.replay.specs.AsyncSpec.{size-to-chunks}
-use Rattle.records.specs.State.{view}
 use Rattle.records.specs.declared.state.State.{State}
-use Rattle.tape.specs.Epoch.{flush-foretold, row-place, epoch-number}
-use Rattle.tape.specs.Foretold.{predicted-image}
+use Rattle.epochs.specs.Epoch.{flush-foretold, row-place, epoch-number}
 use Rattle.tape.specs.Write.{or-else, tape-sound}
 
 -- the end is the one that the header foretells
@@ -26,7 +24,3 @@ ending-number flushing L st log-length tape start predicted-length =
 -- where the next epoch starts
 abbrev pub next-start : ℕ → State → ℕ → ℕ
 next-start L st start = row-place (size-to-chunks const-persistence-chunk-size L) start (st .count)
-
--- the image that the tape predicts for this log
-abbrev pub predicted-now : List ℕ → State → List ℕ → List ℕ → ℕ → List ℕ
-predicted-now image st log tape start = predicted-image const-persistence-chunk-size tape start (view image st log)

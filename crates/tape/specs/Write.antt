@@ -12,8 +12,8 @@ use Rattle.replay.specs.AsyncSpec.{size-to-chunks}
 use Rattle.records.specs.State.{view, sound, appended, log-with}
 use Rattle.writelog.specs.Write.{room-number}
 use Rattle.records.specs.declared.state.State.{State}
-use Rattle.tape.specs.Epoch.{epoch-number}
-use Rattle.tape.specs.Foretold.{predicted-image}
+use Rattle.epochs.specs.Epoch.{epoch-number}
+use Rattle.epochs.specs.Foretold.{predicted-image}
 
 -- a refusal's number, or what comes after it
 abbrev pub or-else : ℕ → ℕ → ℕ

@@ -1,7 +1,7 @@
 // The end of an epoch, by a flush or by a cut: the same tests but for the header, and the same step.
-use crate::epoch::epoch;
-use crate::epoch::flush_foretold;
-use crate::predict::predict;
+use epochs::epoch::epoch;
+use epochs::epoch::flush_foretold;
+use epochs::predict::predict;
 use records::state::Outstanding;
 use records::state::State;
 use records::state::checked;
@@ -14,8 +14,9 @@ ghost use mathlib.Core.Path.{_≡_};
 ghost use lib.ListN.{length};
 ghost use Rattle.region.specs.Answer.{answer-number};
 ghost use Rattle.region.specs.Limits.{writes-limit};
-ghost use Rattle.tape.specs.Ending.{ending-number, next-start, predicted-now};
-ghost use Rattle.tape.specs.Predictable.{Predictable};
+ghost use Rattle.epochs.specs.Foretold.{predicted-now};
+ghost use Rattle.tape.specs.Ending.{ending-number, next-start};
+ghost use Rattle.epochs.specs.Predictable.{Predictable};
 
 // May the epoch end so? Document 01's 1, 10, 9 and 11.
 pub fn ending(

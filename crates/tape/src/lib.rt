@@ -4,8 +4,6 @@
 // specs/ says (document 01, "The tape", with the prophecy view of pmem_async_equiv_v.rs). Nothing is
 // assumed.
 mod ending;
-mod epoch;
-mod predict;
 pub mod tape_cut;
 pub mod tape_flush;
 pub mod tape_write;

@@ -1,6 +1,6 @@
 // The write by tape.
-use crate::epoch::epoch;
-use crate::predict::predict;
+use epochs::epoch::epoch;
+use epochs::predict::predict;
 use records::state::Outstanding;
 use records::state::State;
 use records::state::checked;

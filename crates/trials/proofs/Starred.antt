@@ -13,7 +13,7 @@ use Rattle.sheet.specs.Sheet.{field, clause-holds, empty-holds, join, holds, me
 use Rattle.writelog.specs.Read.{asked-number}
 use Rattle.writelog.specs.Cut.{cut-number}
 use Rattle.gate.specs.Judgement.{judgement}
-use Rattle.tape.specs.Epoch.{epoch-number}
+use Rattle.epochs.specs.Epoch.{epoch-number}
 use Rattle.tape.specs.Write.{tape-room-number, tape-write-number}
 use Rattle.tape.specs.Ending.{ending-number}
 use Rattle.trials.specs.Table.{Trial, starred, zeros, a, b, opened, state, log, seen, after-read, after-cut, by-number, told, judged-first, first-by-tape, second-by-tape, ends-by-tape}

@@ -14,7 +14,8 @@ use Rattle.writelog.specs.Read.{read-number}
 use Rattle.records.specs.declared.state.State.{State}
 use Rattle.gate.specs.Judgement.{judge-report}
 use Rattle.tape.specs.Write.{tape-write-number, predicted-with}
-use Rattle.tape.specs.Ending.{predicted-now, next-start}
+use Rattle.epochs.specs.Foretold.{predicted-now}
+use Rattle.tape.specs.Ending.{next-start}
 use Rattle.tape.specs.Flush.{tape-flush-number}
 use Rattle.tape.specs.Cut.{tape-cut-number}
 

@@ -9,10 +9,10 @@ use Rattle.region.specs.Limits.{const-persistence-chunk-size}
 use Rattle.replay.specs.AsyncSpec.{size-to-chunks}
 use Rattle.records.proofs.Soundness.{Told, told-bytes, told-unsound}
 use Rattle.tape.specs.Write.{tape-sound}
-use Rattle.tape.specs.Epoch.{epoch-number}
+use Rattle.epochs.specs.Epoch.{epoch-number}
 use Rattle.tape.specs.Ending.{as-foretold}
 use Rattle.tape.proofs.NumberLaws.{unsound, missized, tape-sound-there, ending-unsound, ending-bad-epoch, ending-not-foretold, ending-foretold}
-use Rattle.tape.proofs.EpochLaws.{epoch-facts}
+use Rattle.epochs.proofs.EpochLaws.{epoch-facts}
 use Rattle.tape.proofs.ending.ending.Statement.{statement}
 use Rattle.tape.proofs.ending.ending.Tie as tie
 

@@ -18,7 +18,7 @@ use Rattle.writelog.specs.Cut.{chunks}
 use Rattle.tape.specs.Cut.{tape-cut-number}
 use Rattle.tape.proofs.NumberLaws.{Ending, ending-done, predictable-now}
 use Rattle.tape.proofs.PromiseLaws.{tape-cuts-done, tape-cuts-refused}
-use Rattle.tape.proofs.RowsLaws.{rows-of-part}
+use Rattle.epochs.proofs.RowsLaws.{rows-of-part}
 use Rattle.tape.proofs.tape_cut.tape_cut.Statement.{statement}
 use Rattle.tape.proofs.tape_cut.tape_cut.Tie as tie
 

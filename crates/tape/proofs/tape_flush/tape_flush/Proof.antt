@@ -8,7 +8,7 @@ use Rattle.region.specs.Answer.{answer-number}
 use Rattle.region.specs.Limits.{const-persistence-chunk-size}
 use Rattle.records.specs.State.{view}
 use Rattle.tape.proofs.NumberLaws.{Ending, ending-done, predictable-now}
-use Rattle.tape.proofs.PredictLaws.{predicted-flush}
+use Rattle.epochs.proofs.PredictLaws.{predicted-flush}
 use Rattle.tape.proofs.PromiseLaws.{tape-flushes-done, tape-flushes-refused}
 use Rattle.tape.proofs.tape_flush.tape_flush.Statement.{statement}
 use Rattle.tape.proofs.tape_flush.tape_flush.Tie as tie

@@ -14,8 +14,8 @@ use Rattle.records.specs.State.{appended}
 use Rattle.records.specs.declared.state.State.{State}
 use Rattle.records.proofs.Soundness.{Told, told-bytes, told-unsound}
 use Rattle.tape.specs.Write.{tape-sound, tape-write-number}
-use Rattle.tape.specs.Predictable.{Predictable}
-use Rattle.tape.specs.Ending.{predicted-now}
+use Rattle.epochs.specs.Predictable.{Predictable}
+use Rattle.epochs.specs.Foretold.{predicted-now}
 use Rattle.tape.proofs.NumberLaws.{unsound, missized, tape-sound-there, TapeRoom, tape-room-done, predictable-with, tape-write-unsound, tape-write-sound}
 use Rattle.tape.proofs.PromiseLaws.{tape-writes-done, tape-writes-refused}
 use Rattle.tape.proofs.tape_write.tape_write.Statement.{statement}

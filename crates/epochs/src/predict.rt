@@ -8,8 +8,8 @@ use replay::lay::lay;
 use replay::rows::row_bytes;
 ghost use mathlib.Core.Path.{_≡_};
 ghost use lib.ListN.{length};
-ghost use Rattle.tape.specs.Ending.{predicted-now};
-ghost use Rattle.tape.specs.Predictable.{Predictable};
+ghost use Rattle.epochs.specs.Foretold.{predicted-now};
+ghost use Rattle.epochs.specs.Predictable.{Predictable};
 
 pub fn predict(
     state: State,

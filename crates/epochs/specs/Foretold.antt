@@ -5,8 +5,11 @@ use mathlib.Core.List.{List}
 use lib.ListN.{length}
 use Rattle.region.specs.View.{PersistentMemoryRegionView}
 use Rattle.replay.specs.AsyncSpec.{AsyncView, len, size-to-chunks}
+use Rattle.region.specs.Limits.{const-persistence-chunk-size}
 use Rattle.cuts.specs.Prophecy.{prophecy}
-use Rattle.tape.specs.Epoch.{flush-foretold, epoch-rows}
+use Rattle.records.specs.State.{view}
+use Rattle.records.specs.declared.state.State.{State}
+use Rattle.epochs.specs.Epoch.{flush-foretold, epoch-rows}
 
 abbrev pub foretold : ℕ → List ℕ → ℕ → AsyncView → PersistentMemoryRegionView
 foretold C tape start v =
@@ -14,3 +17,7 @@ foretold C tape start v =
 
 abbrev pub predicted-image : ℕ → List ℕ → ℕ → AsyncView → List ℕ
 predicted-image C tape start v = (foretold C tape start v) .durable-state
+
+-- the image that the tape predicts for this log
+abbrev pub predicted-now : List ℕ → State → List ℕ → List ℕ → ℕ → List ℕ
+predicted-now image st log tape start = predicted-image const-persistence-chunk-size tape start (view image st log)

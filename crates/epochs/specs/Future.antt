@@ -7,7 +7,7 @@ use mathlib.Core.List.{List, [], _∷_, _++_}
 use lib.ListN.{length}
 use Rattle.cuts.specs.Shape.{has-shape}
 use Rattle.cuts.specs.Packed.{packed}
-use Rattle.tape.specs.Epoch.{flush-header, cut-header, flush-foretold, epoch-rows, row-place, epoch-number}
+use Rattle.epochs.specs.Epoch.{flush-header, cut-header, flush-foretold, epoch-rows, row-place, epoch-number}
 
 -- `flush` and `durability` of `PMRegionProph`, resolved
 pub record Foreseen : Type 0 where

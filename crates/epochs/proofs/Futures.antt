@@ -14,10 +14,10 @@ use Rattle.replay.specs.Rows.{row-bytes, rows-at, rows-filled, byte-bits}
 use Rattle.cuts.specs.Packed.{packed, are-bytes}
 use Rattle.cuts.proofs.Packed.{bytes-of-append}
 use Rattle.cuts.proofs.Tables.{packed-is-right}
-use Rattle.tape.specs.Epoch.{flush-header, cut-header, header, header-right, flush-foretold, row-place}
-use Rattle.tape.specs.Future.{Foreseen, TellsEpoch, Tells, nothing, next, rows-of-width, AllOfWidth, none, more, epoch-bytes, tape-of}
-use Rattle.tape.proofs.EpochLaws.{epoch-good, flush-header-right, cut-header-right}
-use Rattle.tape.proofs.RowsLaws.{rows-of-part, rows-filled-of-part, rows-before, rows-filled-before}
+use Rattle.epochs.specs.Epoch.{flush-header, cut-header, header, header-right, flush-foretold, row-place}
+use Rattle.epochs.specs.Future.{Foreseen, TellsEpoch, Tells, nothing, next, rows-of-width, AllOfWidth, none, more, epoch-bytes, tape-of}
+use Rattle.epochs.proofs.EpochLaws.{epoch-good, flush-header-right, cut-header-right}
+use Rattle.epochs.proofs.RowsLaws.{rows-of-part, rows-filled-of-part, rows-before, rows-filled-before}
 
 module _ (K : ℕ) (e : Foreseen) (shaped : rows-of-width K e) where
   abbrev n : ℕ

@@ -10,7 +10,7 @@ ghost use lib.ListN.{length};
 ghost use Rattle.region.specs.Answer.{answer-number};
 ghost use Rattle.region.specs.Limits.{image-limit, writes-limit, const-persistence-chunk-size};
 ghost use Rattle.replay.specs.AsyncSpec.{size-to-chunks};
-ghost use Rattle.tape.specs.Epoch.{flush-foretold, epoch-there, epoch-number};
+ghost use Rattle.epochs.specs.Epoch.{flush-foretold, epoch-there, epoch-number};
 
 // A flush will end the epoch.
 pub const FLUSH_HEADER: u8 = 0x80;

@@ -13,7 +13,7 @@ use Rattle.region.specs.Answer.{unless}
 use Rattle.region.proofs.AnswerLaws.{passed}
 use Rattle.region.proofs.Booleans.{cond-when, cond-unless, and-when, and-unless, both}
 use Rattle.replay.specs.Rows.{rows-filled}
-use Rattle.tape.specs.Epoch.{flush-header, cut-header, header, flush-foretold, header-right, row-place, epoch-there, epoch-number}
+use Rattle.epochs.specs.Epoch.{flush-header, cut-header, header, flush-foretold, header-right, row-place, epoch-there, epoch-number}
 
 -- what it means that the epoch is there, and that it is right
 pub record There (K n : ℕ) (tape : List ℕ) (start : ℕ) : Type 0 where

@@ -8,10 +8,10 @@ use borrow.Author.Needs.{needs}
 use Rattle.region.specs.Limits.{const-persistence-chunk-size}
 use Rattle.replay.specs.AsyncSpec.{size-to-chunks}
 use Rattle.replay.specs.Rows.{row-bytes, rows-filled}
-use Rattle.tape.specs.Epoch.{epoch-there}
-use Rattle.tape.proofs.EpochLaws.{There, there-facts, no-epoch, badly-filled, epoch-good}
-use Rattle.tape.proofs.epoch.epoch.Statement.{statement}
-use Rattle.tape.proofs.epoch.epoch.Tie as tie
+use Rattle.epochs.specs.Epoch.{epoch-there}
+use Rattle.epochs.proofs.EpochLaws.{There, there-facts, no-epoch, badly-filled, epoch-good}
+use Rattle.epochs.proofs.epoch.epoch.Statement.{statement}
+use Rattle.epochs.proofs.epoch.epoch.Tie as tie
 
 -- the function's entry, from where the epoch was looked for, and the image's chunks
 abbrev start : tie.After-epoch-there → tie.Start

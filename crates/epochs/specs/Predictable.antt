@@ -7,7 +7,7 @@ use Rattle.region.specs.Limits.{image-limit, const-persistence-chunk-size}
 use Rattle.replay.specs.AsyncSpec.{size-to-chunks}
 use Rattle.records.specs.Log.{Remaining}
 use Rattle.records.specs.declared.state.State.{State}
-use Rattle.tape.specs.Epoch.{row-place}
+use Rattle.epochs.specs.Epoch.{row-place}
 
 pub record Predictable (L : ℕ) (st : State) (log-length : ℕ) (tape : List ℕ) (start predicted-length : ℕ) : Type 0 where
   pub short : L ≤ image-limit

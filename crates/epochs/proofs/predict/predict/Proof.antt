@@ -10,9 +10,9 @@ use Rattle.replay.specs.AsyncSpec.{size-to-chunks}
 use Rattle.replay.specs.Rows.{row-bytes}
 use Rattle.replay.proofs.Laid.{update-whole}
 use Rattle.records.specs.Log.{Remaining}
-use Rattle.tape.proofs.PredictLaws.{replayed-whole, replayed-selected}
-use Rattle.tape.proofs.predict.predict.Statement.{statement}
-use Rattle.tape.proofs.predict.predict.Tie as tie
+use Rattle.epochs.proofs.PredictLaws.{replayed-whole, replayed-selected}
+use Rattle.epochs.proofs.predict.predict.Statement.{statement}
+use Rattle.epochs.proofs.predict.predict.Tie as tie
 
 -- the function's entry, from where the image was copied
 abbrev start : tie.After-lay → tie.Start

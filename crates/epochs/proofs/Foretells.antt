@@ -15,10 +15,10 @@ use Rattle.cuts.proofs.OneMore.{cut-of-a-write, read-of-a-write}
 use Rattle.cuts.proofs.Shape.{shaped-rows-crash}
 use Rattle.cuts.proofs.Tables.{rows-at-shape}
 use Rattle.cuts.proofs.Prophecy.{prophecy-is-valid, prophecy-of-nothing, prophecy-of-a-write, cut-could-leave-the-prophecy}
-use Rattle.tape.specs.Epoch.{flush-foretold, epoch-rows, row-place}
-use Rattle.tape.specs.Foretold.{foretold, predicted-image}
-use Rattle.tape.proofs.PredictLaws.{predicted-flush, predicted-cut}
-use Rattle.tape.proofs.RowsLaws.{rows-at-last}
+use Rattle.epochs.specs.Epoch.{flush-foretold, epoch-rows, row-place}
+use Rattle.epochs.specs.Foretold.{foretold, predicted-image}
+use Rattle.epochs.proofs.PredictLaws.{predicted-flush, predicted-cut}
+use Rattle.epochs.proofs.RowsLaws.{rows-at-last}
 
 module _ (C : ℕ) (tape : List ℕ) (start : ℕ) where
   -- on an empty log, as after a flush or a cut, the image itself is predicted

@@ -10,10 +10,10 @@ use lib.ListN.{length}
 use lib.Dec.{ltb}
 use borrow.Author.Needs.{needs}
 use Rattle.region.specs.Limits.{image-limit, writes-limit}
-use Rattle.tape.specs.Epoch.{header-right}
-use Rattle.tape.proofs.EpochLaws.{no-header, with-header, past-the-end, other-header, flush-header-right, cut-header-right, fits-behind}
-use Rattle.tape.proofs.epoch.epoch_there.Statement.{statement}
-use Rattle.tape.proofs.epoch.epoch_there.Tie as tie
+use Rattle.epochs.specs.Epoch.{header-right}
+use Rattle.epochs.proofs.EpochLaws.{no-header, with-header, past-the-end, other-header, flush-header-right, cut-header-right, fits-behind}
+use Rattle.epochs.proofs.epoch.epoch_there.Statement.{statement}
+use Rattle.epochs.proofs.epoch.epoch_there.Tie as tie
 
 -- the function's entry, from where the header was tested
 abbrev start : tie.Joined2 → tie.Start

@@ -12,9 +12,8 @@ use Rattle.records.specs.Log.{last-writes}
 use Rattle.records.specs.declared.state.State.{State}
 use Rattle.records.proofs.Walk.{all-writes}
 use Rattle.records.proofs.Views.{writes-counted}
-use Rattle.tape.specs.Epoch.{flush-foretold, epoch-rows}
-use Rattle.tape.specs.Foretold.{predicted-image}
-use Rattle.tape.specs.Ending.{predicted-now}
+use Rattle.epochs.specs.Epoch.{flush-foretold, epoch-rows}
+use Rattle.epochs.specs.Foretold.{predicted-image, predicted-now}
 
 -- the two headers
 pub predicted-flush : (C : ℕ) (tape : List ℕ) (start : ℕ) (v : AsyncView) → flush-foretold tape start ≡ true → predicted-image C tape start v ≡ readable v
