@@ -7,13 +7,12 @@ use mathlib.Core.List.{List}
 use lib.ListN.{length, set, length-set}
 use Rattle.region.specs.Limits.{const-persistence-chunk-size, writes-limit}
 use Rattle.region.specs.Answer.{if-done}
-use Rattle.region.specs.Pmemspec.{update-bytes}
 use Rattle.region.specs.declared.Answer.{Answer}
 use Rattle.region.specs.declared.Answer.the-variants.{Done}
 use Rattle.region.proofs.AnswerLaws.{changed}
 use Rattle.replay.specs.AsyncSpec.{AsyncView, len, write, size-to-chunks}
 use Rattle.cuts.proofs.Lengths.{length-flush, length-flush-selective}
-use Rattle.records.specs.State.{log-records, together, view, sound, appended, emptied}
+use Rattle.records.specs.State.{view, sound, appended, log-with, emptied}
 use Rattle.writelog.specs.Write.{write-number, Writes}
 use Rattle.writelog.specs.Flush.{flush-number, Flushes}
 use Rattle.writelog.specs.Cut.{table-rows, cut-number, Cuts}
@@ -58,7 +57,7 @@ module _ (image : List ℕ) (st : State) (log : List ℕ) (a : Accepted image st
   facts = sound-facts (length image) st (length log) (a .good)
 
   -- a write that there is room for, recorded
-  recorded : (addr : ℕ) (bytes : List ℕ) → Room (length image) st addr (length bytes) → Accepted image (appended st addr (length bytes)) (update-bytes log (together (log-records st)) bytes)
+  recorded : (addr : ℕ) (bytes : List ℕ) → Room (length image) st addr (length bytes) → Accepted image (appended st addr (length bytes)) (log-with st log bytes)
   recorded addr bytes r =
       record {
         sized = sized-of-appended st addr (length bytes) (a .sized);

@@ -12,7 +12,6 @@ use Rattle.region.specs.Limits.{image-limit, log-limit}
 use Rattle.region.specs.Answer.{unless, answer-number, refusal-number}
 use Rattle.region.specs.declared.Answer.{Answer}
 use Rattle.region.specs.declared.Refusal.{Refusal}
-use Rattle.region.specs.declared.Refusal.the-variants.{BadState, OutOfRange, BrokenImage, TooManyRounds}
 use Rattle.region.specs.declared.Answer.the-variants as answers
 use Rattle.region.proofs.AnswerLaws.{refusals-by-number, done-changed, refused-left, refusal-not-done, passed}
 use Rattle.region.proofs.Booleans.{both, cond-when, cond-unless}

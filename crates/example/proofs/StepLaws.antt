@@ -21,7 +21,7 @@ use Rattle.replay.specs.AsyncSpec.{AsyncView, Write, write, readable, can-crash
 use Rattle.replay.specs.Choice.{points}
 use Rattle.sheet.specs.Sheet.{obeys}
 use Rattle.sheet.proofs.Laws.{obeyed-is-formed}
-use Rattle.records.specs.State.{log-records, together, writes-of, view, appended, emptied}
+use Rattle.records.specs.State.{log-records, together, writes-of, view, appended, log-with, emptied}
 use Rattle.writelog.specs.Flush.{Flushes}
 use Rattle.records.specs.declared.state.Record.{Record}
 use Rattle.records.specs.declared.state.State.{State}
@@ -142,7 +142,7 @@ module _ (image : List ℕ) (st : State) (log sheet work : List ℕ) (addr a b v
       let none = admitted-number image st log sheet work addr (v ∷ []) (gate-judges image st log sheet work addr (v ∷ []) g) (admits .1) in
       let new : Record = record { addr = addr; len = 1 } in
       let state : st′ ≡ appended st addr 1 = changed _ (g .state-after) none in
-      let laid : log′ ≡ update-bytes log (together (log-records st)) (v ∷ []) = changed _ (g .log-after) none in
+      let laid : log′ ≡ log-with st log (v ∷ []) = changed _ (g .log-after) none in
       let few-writes : st .count < writes-limit = omega (arith, l .counted) in
       let room : length us < length log = omega (arith, l .facts .buffer) in
       let longer = length-append us (v ∷ []) in

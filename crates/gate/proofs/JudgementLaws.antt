@@ -11,14 +11,13 @@ use lib.ListN.{length}
 use borrow.Author.Tests.{le-leb, lt-leb, leb-true, eq-eqb, ne-eqb, eqb-true}
 use Rattle.region.specs.Limits.{points-limit}
 use Rattle.region.specs.Answer.{Report, unless, refusal-number, if-done}
-use Rattle.region.specs.Pmemspec.{update-bytes}
 use Rattle.region.specs.declared.Refusal.{Refusal}
 use Rattle.region.specs.declared.Refusal.the-variants.{BadState, BadSheet, TooManyPoints}
 use Rattle.region.proofs.AnswerLaws.{done-changed, not-done, refusal-not-done}
 use Rattle.region.proofs.Booleans.{cond-when, cond-unless, and-unless, both, both-true}
 use Rattle.verdict.specs.Search as search
 use Rattle.sheet.specs.Sheet.{well-formed}
-use Rattle.records.specs.State.{log-records, together, view, sound, appended}
+use Rattle.records.specs.State.{view, sound, appended, log-with}
 use Rattle.writelog.specs.Write.{room-number}
 use Rattle.records.specs.declared.state.State.{State}
 use Rattle.writelog.proofs.WriteLaws.{room-done, room-there}
@@ -209,7 +208,7 @@ module _ {image : List ℕ} {st : State} {log sheet work : List ℕ} {addr : ℕ
     pub refused-work : {why : Refusal} → answer ≡ Refused why → work′ ≡ work
     refused-work a = j .work-after ∙ no-image-judged image st log sheet work addr bytes (same-values (sym (ap verdict-report a) ∙ j .answers))
 
-    pub gates-admitted : {n : ℕ} → answer ≡ Admitted n → {st′ : State} {log′ : List ℕ} → st′ ≡ appended st addr (length bytes) → log′ ≡ update-bytes log (together (log-records st)) bytes
+    pub gates-admitted : {n : ℕ} → answer ≡ Admitted n → {st′ : State} {log′ : List ℕ} → st′ ≡ appended st addr (length bytes) → log′ ≡ log-with st log bytes
         → Gates image st log sheet work addr bytes answer st′ log′ work′
     gates-admitted a s l =
         let none = admitted-number image st log sheet work addr bytes j a in

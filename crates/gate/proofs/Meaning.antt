@@ -9,7 +9,6 @@ use lib.ListN.{length}
 use Rattle.region.specs.Limits.{const-persistence-chunk-size}
 use Rattle.region.specs.Answer.{refusal-number}
 use Rattle.region.specs.declared.Refusal.{Refusal}
-use Rattle.region.specs.Pmemspec.{update-bytes}
 use Rattle.region.proofs.AnswerLaws.{refusals-by-number, refusal-not-8, done-changed}
 use Rattle.replay.specs.AsyncSpec.{AsyncView, write, readable}
 use Rattle.verdict.specs.Search as search
@@ -18,7 +17,7 @@ use Rattle.verdict.specs.Gate.{gate-verdict, judges-images}
 use Rattle.verdict.proofs.Gate.{gate-judges-images}
 use Rattle.sheet.specs.Sheet.{obeys}
 use Rattle.sheet.proofs.Laws.{before-unseen}
-use Rattle.records.specs.State.{log-records, together, view, appended}
+use Rattle.records.specs.State.{view, appended, log-with}
 use Rattle.records.specs.declared.state.State.{State}
 use Rattle.engine.specs.Search.{sheet-verdict, sheet-image}
 use Rattle.gate.specs.declared.Verdict.{Verdict}
@@ -109,7 +108,7 @@ module _ (image : List ℕ) (st : State) (log sheet work : List ℕ) (addr : ℕ
 
   -- The promise can be kept: a write that fits, and of which a cut could leave only images that obey, has the outcome that admits it.
   pub admitting : Fits image st log sheet work addr bytes → ((x : List ℕ) → could-leave v addr bytes x → obeys sheet x x ≡ true)
-      → Gates image st log sheet work addr bytes (Admitted (gate-points image st log addr bytes)) (appended st addr (length bytes)) (update-bytes log (together (log-records st)) bytes) (readable (write v addr bytes))
+      → Gates image st log sheet work addr bytes (Admitted (gate-points image st log addr bytes)) (appended st addr (length bytes)) (log-with st log bytes) (readable (write v addr bytes))
   admitting f all =
       let admits : J image st log sheet work addr bytes ≡ tried search.admit = fitting-tried image st log sheet work addr bytes f ∙ ap tried (judged .admits .1 all) in
       let report = ap (judgement-report (gate-points image st log addr bytes)) admits in

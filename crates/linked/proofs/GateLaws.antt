@@ -3,10 +3,9 @@ use Prim.Native.Nat.{ℕ}
 use mathlib.Core.Path.{_≡_, ap, subst, _∙_}
 use mathlib.Core.List.{List}
 use lib.ListN.{length}
-use Rattle.region.specs.Pmemspec.{update-bytes}
 use Rattle.region.specs.Answer.{Report, answer-number}
 use Rattle.region.specs.declared.Answer.{Answer}
-use Rattle.records.specs.State.{log-records, together, appended}
+use Rattle.records.specs.State.{appended, log-with}
 use Rattle.records.specs.declared.state.State.{State}
 use Rattle.gate.specs.Opening.{fresh, open-number, Opens}
 use Rattle.gate.specs.Judgement.{verdict-report, judge-report, judge-number, judge-work, Judges, Gates}
@@ -46,7 +45,7 @@ module _ (words image log sheet work : List ℕ) (addr : ℕ) (bytes : List ℕ)
   words-gated = words-of (appended (state-of words) addr (length bytes))
 
   abbrev log-gated : List ℕ
-  log-gated = update-bytes log (together (log-records (state-of words))) bytes
+  log-gated = log-with (state-of words) log bytes
 
   pub judge-wrong : (length words ≡ state-words → ⊥) → {number : ℕ} → number ≡ 1 → SkaldriftJudge words image log sheet work addr bytes report number work report
   judge-wrong n told =

@@ -3,11 +3,10 @@ use Prim.Native.Nat.{ℕ}
 use mathlib.Core.Path.{_≡_, ap, subst, _∙_}
 use mathlib.Core.List.{List}
 use lib.ListN.{length}
-use Rattle.region.specs.Pmemspec.{update-bytes}
 use Rattle.region.specs.Answer.{Report, answer-number}
 use Rattle.region.specs.declared.Answer.{Answer}
 use Rattle.replay.specs.AsyncSpec.{readable}
-use Rattle.records.specs.State.{view, log-records, together, appended, emptied}
+use Rattle.records.specs.State.{view, appended, log-with, emptied}
 use Rattle.writelog.specs.Write.{write-number, Writes}
 use Rattle.writelog.specs.Read.{read-number, Fills}
 use Rattle.writelog.specs.Flush.{flush-number, Flushes}
@@ -26,7 +25,7 @@ module _ (words image log : List ℕ) (addr : ℕ) (bytes : List ℕ) where
   words-written = words-of (appended (state-of words) addr (length bytes))
 
   abbrev log-written : List ℕ
-  log-written = update-bytes log (together (log-records (state-of words))) bytes
+  log-written = log-with (state-of words) log bytes
 
   pub write-wrong : (length words ≡ state-words → ⊥) → {number : ℕ} → number ≡ 1 → SkaldriftWrite words image log addr bytes number words log
   write-wrong n told =

@@ -9,11 +9,10 @@ use lib.Dec.{eqb}
 use lib.ListN.{length}
 use borrow.Author.Tests.{eqb-true}
 use Rattle.region.specs.Limits.{writes-limit}
-use Rattle.region.specs.Pmemspec.{update-bytes}
 use Rattle.region.specs.Answer.{Report, answer-number, if-done}
 use Rattle.region.specs.declared.Answer.{Answer}
 use Rattle.replay.specs.AsyncSpec.{readable}
-use Rattle.records.specs.State.{view, log-records, together, appended, emptied}
+use Rattle.records.specs.State.{view, appended, log-with, emptied}
 use Rattle.records.specs.declared.state.State.{State}
 use Rattle.records.proofs.Views.{sized-of-appended}
 use Rattle.writelog.specs.Write.{write-number, Writes}
@@ -112,7 +111,7 @@ module _ (words : List ℕ) (sized : length words ≡ state-words) where
         record {
           answers = same;
           state-after = state-by-call at (appended (state-of words) addr (length bytes)) (p .words-after);
-          log-after = by-call at (update-bytes log (together (log-records (state-of words))) bytes) log (p .log-after);
+          log-after = by-call at (log-with (state-of words) log bytes) log (p .log-after);
         },
       )
 
@@ -190,7 +189,7 @@ module _ (words : List ℕ) (sized : length words ≡ state-words) where
         record {
           answers = judges .answers;
           state-after = state-by-call at (appended (state-of words) addr (length bytes)) (p .words-after);
-          log-after = by-call at (update-bytes log (together (log-records (state-of words))) bytes) log (p .log-after);
+          log-after = by-call at (log-with (state-of words) log bytes) log (p .log-after);
           work-after = judges .work-after;
         },
       )

@@ -20,7 +20,7 @@ use Rattle.gate.specs.Opening.{open-number, Opens}
 use Rattle.gate.specs.Judgement.{verdict-report, Judges}
 use Rattle.gate.specs.declared.Verdict.{Verdict}
 use Rattle.gate.specs.declared.Verdict.the-variants as verdict
-use Rattle.session.specs.History.{Event, nothing, cut-by, reopened, History, opening, _then_, if-answered, if-admitted, if-cut}
+use Rattle.session.specs.History.{Event, cut-by, reopened, History, opening, _then_, if-answered, if-admitted, if-cut}
 use Rattle.session.specs.Run.{Desk, Step, Run, throughout}
 use Rattle.session.specs.Run as run
 use Rattle.session.specs.Theorem.{could-be-left, Session}

@@ -16,7 +16,7 @@ use Rattle.region.specs.Pmemspec.{update-bytes}
 use Rattle.region.proofs.Booleans.{both, both-true}
 use Rattle.replay.specs.AsyncSpec.{Write, write}
 use Rattle.replay.proofs.Laid.{update-is-lay, length-update, lay-below, update-reads-back}
-use Rattle.records.specs.State.{log-records, together, records-inside, writes-of, view, appended, emptied}
+use Rattle.records.specs.State.{log-records, together, records-inside, writes-of, view, appended, log-with, emptied}
 use Rattle.records.specs.declared.state.Record.{Record}
 use Rattle.records.specs.declared.state.State.{State}
 use Rattle.records.proofs.Soundness.{Sound, Room}
@@ -112,7 +112,7 @@ module _ (image : List ℕ) (st : State) (log : List ℕ) (addr : ℕ) (bytes : 
   fits-log : at + length bytes ≤ length log
   fits-log = omega (arith, s .buffer, r .fits)
 
-  pub view-of-recorded : view image (appended st addr (length bytes)) (update-bytes log (together (log-records st)) bytes) ≡ write (view image st log) addr bytes
+  pub view-of-recorded : view image (appended st addr (length bytes)) (log-with st log bytes) ≡ write (view image st log) addr bytes
   view-of-recorded =
       let new : Record = record { addr = addr; len = length bytes } in
       ap (λ (ws : List Write). record { state-at-last-flush = image; outstanding-writes = ws })
@@ -122,7 +122,7 @@ module _ (image : List ℕ) (st : State) (log : List ℕ) (addr : ℕ) (bytes : 
       (writes-agree (log-records st) (update-bytes log at bytes) log (laid-behind log at bytes (omega (arith, fits-log))))
       (update-reads-back log at bytes fits-log))
 
-  pub sound-after-recorded : Sound (length image) (appended st addr (length bytes)) (length (update-bytes log (together (log-records st)) bytes))
+  pub sound-after-recorded : Sound (length image) (appended st addr (length bytes)) (length (log-with st log bytes))
   sound-after-recorded =
       subst⁻¹ (Sound (length image) (appended st addr (length bytes))) (length-update log at bytes)
       (sound-of-appended (length image) st (length log) addr (length bytes) sized s r)

@@ -8,10 +8,9 @@ use mathlib.Core.List.{List}
 use lib.ListN.{length}
 use Rattle.region.specs.Limits.{const-persistence-chunk-size, writes-limit, log-limit}
 use Rattle.region.specs.Answer.{if-done}
-use Rattle.region.specs.Pmemspec.{update-bytes}
 use Rattle.region.proofs.AnswerLaws.{left}
 use Rattle.replay.specs.AsyncSpec.{can-crash}
-use Rattle.records.specs.State.{log-records, together, appended, emptied}
+use Rattle.records.specs.State.{appended, log-with, emptied}
 use Rattle.records.specs.declared.state.State.{State}
 use Rattle.records.proofs.Views.{view-of-emptied}
 use Rattle.gate.specs.Judgement.{Judges}
@@ -50,7 +49,7 @@ module _ (sheet image : List ℕ) (st : State) (log : List ℕ) (h : HoldsAt she
   -- an admitted write, by whichever call it is recorded
   pub records : {work : List ℕ} {addr : ℕ} {bytes : List ℕ} {n : ℕ} {work′ : List ℕ} {st′ : State} {log′ : List ℕ}
       → Judges image st log sheet work addr bytes (Admitted n) work′
-      → st′ ≡ appended st addr (length bytes) → log′ ≡ update-bytes log (together (log-records st)) bytes
+      → st′ ≡ appended st addr (length bytes) → log′ ≡ log-with st log bytes
       → Keeps sheet here (written addr bytes) (desk image st′ log′)
   unfolding happen
   records {work} {addr} {bytes} j s l =

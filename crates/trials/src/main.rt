@@ -6,8 +6,10 @@ mod log_trials;
 mod long_sheets;
 mod print;
 mod tape_trials;
+mod viewer_trials;
 
 fn main() {
+    viewer_trials::run();
     log_trials::run();
     gate_trials::run();
     tape_trials::run();

@@ -4,7 +4,7 @@ use mathlib.Core.Path.{_≡_, refl, sym, ap, _∙_}
 use mathlib.Core.Bool.{true, false}
 use mathlib.Core.List.{List, [], _∷_}
 use lib.ListN.{length}
-use Rattle.region.specs.Answer.{Report, unless, refusal-number, if-done}
+use Rattle.region.specs.Answer.{unless, refusal-number}
 use Rattle.region.specs.declared.Refusal.{Refusal}
 use Rattle.region.proofs.AnswerLaws.{done-changed, refused-left}
 use Rattle.region.proofs.Booleans.{cond-when, cond-unless}

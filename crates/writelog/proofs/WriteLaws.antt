@@ -8,13 +8,12 @@ use lib.ListN.{length}
 use borrow.Author.Tests.{lt-ltb, le-ltb, le-leb, lt-leb, leb-true, ltb-true}
 use Rattle.region.specs.Limits.{writes-limit, log-limit}
 use Rattle.region.specs.Answer.{unless, answer-number, refusal-number}
-use Rattle.region.specs.Pmemspec.{update-bytes}
 use Rattle.region.specs.declared.Refusal.{Refusal}
 use Rattle.region.specs.declared.Answer.{Answer}
 use Rattle.region.specs.declared.Answer.the-variants.{Done, Refused}
 use Rattle.region.proofs.AnswerLaws.{done-changed, refused-left, passed}
 use Rattle.region.proofs.Booleans.{cond-when, cond-unless}
-use Rattle.records.specs.State.{log-records, together, sound, appended}
+use Rattle.records.specs.State.{log-records, together, sound, appended, log-with}
 use Rattle.records.specs.declared.state.State.{State}
 use Rattle.records.proofs.Soundness.{Room}
 use Rattle.writelog.specs.Write.{room-number, write-number, Writes}
@@ -62,7 +61,7 @@ module _ (image : List ℕ) (st : State) (log : List ℕ) (addr n : ℕ) where
 -- the promise of a done write, and of a refused one
 module _ {image : List ℕ} {st : State} {log : List ℕ} {addr : ℕ} {bytes : List ℕ} {answer : Answer}
     (number : answer-number answer ≡ write-number image st log addr (length bytes)) where
-  pub writes-done : {st′ : State} {log′ : List ℕ} → answer ≡ Done → st′ ≡ appended st addr (length bytes) → log′ ≡ update-bytes log (together (log-records st)) bytes
+  pub writes-done : {st′ : State} {log′ : List ℕ} → answer ≡ Done → st′ ≡ appended st addr (length bytes) → log′ ≡ log-with st log bytes
       → Writes image st log addr bytes answer st′ log′
   writes-done e s l =
       let none : write-number image st log addr (length bytes) ≡ 0 = sym number ∙ ap answer-number e in
