@@ -8,7 +8,7 @@ use region::viewer::Which;
 use region::viewer::viewer;
 use region::viewer::viewer_number;
 
-fn asked(first: &[u8], second: &[u8], which: Which, addr: usize, len: usize) {
+fn asked<'a>(first: &'a [u8], second: &'a [u8], which: Which, addr: usize, len: usize) {
     number(answer_number(viewer_number(first, second, which, addr, len)));
     let part = viewer(first, second, which, addr, len);
     bytes(part);
