@@ -28,7 +28,7 @@ pub fn flush_foretold(tape: &[u8], start: usize) -> bool
 
 // Is there a header of the two, with the bytes of n rows behind it? No sum is made of `start`, which
 // may be any number.
-pub fn epoch_there(tape: &[u8], start: usize, n: usize, chunks: usize) -> bool
+fn epoch_there(tape: &[u8], start: usize, n: usize, chunks: usize) -> bool
     requires { ⌜ (n ≤ writes-limit) × (chunks ≤ image-limit) ⌝ }
     ensures { λ r. ⌜ r ≡ epoch-there chunks n (now (tape .entry)) start ⌝ }
 {
