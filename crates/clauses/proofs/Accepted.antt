@@ -10,7 +10,7 @@ use Rattle.region.specs.Answer.{if-done}
 use Rattle.region.specs.declared.Answer.{Answer}
 use Rattle.region.specs.declared.Answer.the-variants.{Done}
 use Rattle.region.proofs.AnswerLaws.{changed}
-use Rattle.replay.specs.AsyncSpec.{AsyncView, len, write, size-to-chunks}
+use Rattle.pieces.specs.AsyncSpec.{AsyncView, len, write, size-to-chunks}
 use Rattle.cuts.proofs.Lengths.{length-flush, length-flush-selective}
 use Rattle.records.specs.State.{view, sound, appended, log-with, emptied}
 use Rattle.writelog.specs.Write.{write-number, Writes}

@@ -14,8 +14,8 @@ use Rattle.region.specs.Answer.{Report}
 use Rattle.region.specs.declared.Answer.the-variants.{Done}
 use Rattle.region.proofs.AnswerLaws.{changed, passed}
 use Rattle.region.proofs.Booleans.{both}
-use Rattle.replay.specs.AsyncSpec.{AsyncView, len, valid, within, write, flush, readable, can-crash-as, can-crash}
-use Rattle.replay.proofs.Laid.{update-reads-back}
+use Rattle.pieces.specs.AsyncSpec.{AsyncView, len, valid, within, write, flush, readable, can-crash-as, can-crash}
+use Rattle.pieces.proofs.Laid.{update-reads-back}
 use Rattle.cuts.specs.Prophecy.{prophecy}
 use Rattle.cuts.specs.Shape.{has-shape}
 use Rattle.cuts.proofs.Always.{cut-after-flush, cut-could-leave-the-read-image}

@@ -6,7 +6,7 @@ use mathlib.Core.List.{List}
 use lib.ListN.{length}
 use lib.Seq.{ext-getD}
 use Rattle.region.specs.Pmemspec.{chunk-corresponds}
-use Rattle.replay.specs.AsyncSpec.{Write, AsyncView, flush-writes-selective, flush-selective, size-to-chunks}
+use Rattle.pieces.specs.AsyncSpec.{Write, AsyncView, flush-writes-selective, flush-selective, size-to-chunks}
 use Rattle.cuts.specs.Bits.{write-at, row-bit-at, agree-on-touched, chunks}
 use Rattle.cuts.proofs.Lengths.{length-flush-writes-selective}
 use Rattle.cuts.proofs.Basics.{chunk-below, covered-is-touched}

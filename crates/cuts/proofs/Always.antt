@@ -5,7 +5,7 @@ use native.Mathlib.Nat.{not-suc-le-zero}
 use mathlib.Core.Path.{_≡_, refl}
 use mathlib.Core.Logic.{_↔_}
 use mathlib.Core.List.{List, []}
-use Rattle.replay.specs.AsyncSpec.{AsyncView, flush, flush-writes-selective, committed, readable, write, can-crash}
+use Rattle.pieces.specs.AsyncSpec.{AsyncView, flush, flush-writes-selective, committed, readable, write, can-crash}
 use Rattle.cuts.specs.Number.{choice-points}
 use Rattle.cuts.proofs.Flush.{flush-leaves-the-read-image}
 use Rattle.cuts.proofs.PartWrites.{no-write-is-part-write, part-writes}

@@ -11,8 +11,8 @@ use borrow.Author.Tests.{leb-true, ltb-true}
 use Rattle.region.specs.Tab.{inside}
 use Rattle.region.proofs.Booleans.{both}
 use Rattle.region.proofs.Tab.{inside-in}
-use Rattle.replay.specs.AsyncSpec.{Write, size-to-chunks}
-use Rattle.replay.specs.Choice.{touched, touches}
+use Rattle.pieces.specs.AsyncSpec.{Write, size-to-chunks}
+use Rattle.pieces.specs.Choice.{touched, touches}
 use Rattle.cuts.specs.Bits.{covers, touches-chunk}
 
 pub inside-bounds : (addr n i : ℕ) → inside addr n i ≡ true → (addr ≤ i) × (i < addr + n)

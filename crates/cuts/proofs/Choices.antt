@@ -9,8 +9,8 @@ use mathlib.Core.List.{List, [], _∷_, _++_}
 use lib.ListN.{length, getD, take}
 use lib.Pow.{shr-shr}
 use Rattle.region.proofs.Tab.{length-tab, getD-tab, inside-below, inside-above}
-use Rattle.replay.specs.AsyncSpec.{Write, addr-to-chunk}
-use Rattle.replay.specs.Choice.{touched, points, bit, row-of, rows-of}
+use Rattle.pieces.specs.AsyncSpec.{Write, addr-to-chunk}
+use Rattle.pieces.specs.Choice.{touched, points, bit, row-of, rows-of}
 use Rattle.cuts.specs.Bits.{no-write, write-at, row-bit-at, touches-chunk}
 use Rattle.cuts.specs.Shape.{has-shape}
 use Rattle.cuts.proofs.Digits.{bit-of-shift}

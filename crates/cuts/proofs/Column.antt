@@ -8,7 +8,7 @@ use mathlib.Core.List.{List, [], _∷_}
 use lib.ListN.{length, getD, drop, List·getD-eq-default}
 use Rattle.region.specs.Pmemspec.{update-bytes}
 use Rattle.region.proofs.Tab.{getD-tab}
-use Rattle.replay.specs.AsyncSpec.{Write, apply-write, apply-write-selective, flush-writes-selective}
+use Rattle.pieces.specs.AsyncSpec.{Write, apply-write, apply-write-selective, flush-writes-selective}
 use Rattle.cuts.specs.Bits.{write-at, row-bit-at, covers}
 use Rattle.cuts.proofs.Lengths.{length-apply-write-selective, length-flush-writes-selective}
 use Rattle.cuts.proofs.Basics.{getD-tail}

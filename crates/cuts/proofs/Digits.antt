@@ -8,7 +8,7 @@ use mathlib.Core.Bool.{Bool, true, false, cond}
 use lib.Dec.{eqb, lit<}
 use lib.Arith.{digits-div, digits-mod}
 use lib.Pow.{pow-pos, shr-shr}
-use Rattle.replay.specs.Choice.{bit}
+use Rattle.pieces.specs.Choice.{bit}
 use Rattle.cuts.specs.Number.{bits-below}
 
 pub bit-of-shift : (m t k : ℕ) → bit (m / 2 ^ t) k ≡ bit m (t + k)

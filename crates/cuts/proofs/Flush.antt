@@ -5,7 +5,7 @@ use mathlib.Core.Bool.{Bool, true, false, cond, _&&_}
 use mathlib.Core.List.{List, [], _∷_}
 use lib.ListN.{length, getD, drop}
 use lib.Seq.{ext-getD}
-use Rattle.replay.specs.AsyncSpec.{Write, AsyncView, apply-write, apply-write-selective, flush-writes, flush-writes-selective, flush, flush-selective, readable}
+use Rattle.pieces.specs.AsyncSpec.{Write, AsyncView, apply-write, apply-write-selective, flush-writes, flush-writes-selective, flush, flush-selective, readable}
 use Rattle.cuts.specs.Bits.{write-at, row-bit-at, covers, keeps-all, chunks}
 use Rattle.cuts.proofs.Lengths.{length-apply-write, length-apply-write-selective}
 use Rattle.cuts.proofs.Basics.{getD-tail, chunk-below, covered-is-touched}

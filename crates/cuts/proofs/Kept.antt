@@ -7,11 +7,11 @@ use mathlib.Core.Bool.{Bool, true}
 use mathlib.Core.List.{List, [], _∷_}
 use lib.ListN.{length, drop}
 use Rattle.region.proofs.Tab.{inside-in}
-use Rattle.replay.specs.AsyncSpec.{Write, addr-to-chunk}
-use Rattle.replay.specs.Choice.{touched, points}
-use Rattle.replay.specs.Rows.{set-bits}
-use Rattle.replay.specs.Kept.{kept, kept-of}
-use Rattle.replay.proofs.ByteBits.{set-bits-le, set-bits-agree}
+use Rattle.pieces.specs.AsyncSpec.{Write, addr-to-chunk}
+use Rattle.pieces.specs.Choice.{touched, points}
+use Rattle.pieces.specs.Rows.{set-bits}
+use Rattle.pieces.specs.Kept.{kept, kept-of}
+use Rattle.pieces.proofs.ByteBits.{set-bits-le, set-bits-agree}
 use Rattle.cuts.specs.Bits.{write-at, row-bit-at, touches-chunk}
 use Rattle.cuts.proofs.Basics.{getD-tail}
 

@@ -5,8 +5,8 @@ use mathlib.Core.Bool.{Bool}
 use mathlib.Core.List.{List, [], _∷_}
 use lib.ListN.{length, getD, drop}
 use Rattle.region.proofs.Tab.{length-tab}
-use Rattle.replay.specs.AsyncSpec.{Write, AsyncView, len, apply-write, apply-write-selective, flush-writes, flush-writes-selective, flush, flush-selective}
-use Rattle.replay.proofs.Laid.{length-update}
+use Rattle.pieces.specs.AsyncSpec.{Write, AsyncView, len, apply-write, apply-write-selective, flush-writes, flush-writes-selective, flush, flush-selective}
+use Rattle.pieces.proofs.Laid.{length-update}
 
 pub length-apply-write : (s : List ℕ) (w : Write) → length (apply-write s w) ≡ length s
 length-apply-write s w = length-update s (w .addr) (w .bytes)

@@ -3,6 +3,7 @@
 -- `can-crash-as` speaks of are those of the right shape (`Shape`). One write more is a part-write over what could be left before (`OneMore`,
 -- `PartWrites`). Choice numbers (`Choices`, `Numbers`, `Pairs`) and row tables (`Packed`, `Tables`) leave the images that rows leave. `Kept`, `Within`
 -- and `Ones` are the kept count, `Always` has the images that a cut could always leave, and `Prophecy` is the view of pmem_async_equiv_v.rs.
+-- Then the gate's search (`Search`, `Covering`): its theorem is `gate-judges-images` in `Gate`.
 pub mod Lengths
 pub mod Basics
 pub mod Column
@@ -23,3 +24,6 @@ pub mod Within
 pub mod Ones
 pub mod Always
 pub mod Prophecy
+pub mod Search
+pub mod Covering
+pub mod Gate

@@ -4,7 +4,7 @@ use mathlib.Core.Path.{_≡_, refl, ap, _∙_}
 use mathlib.Core.Bool.{Bool, true, false, and-false}
 use mathlib.Core.List.{List, [], _∷_}
 use lib.Seq.{ext-getD}
-use Rattle.replay.specs.AsyncSpec.{Write, AsyncView, apply-write-selective, flush-writes-selective, flush-selective, committed}
+use Rattle.pieces.specs.AsyncSpec.{Write, AsyncView, apply-write-selective, flush-writes-selective, flush-selective, committed}
 use Rattle.cuts.specs.Bits.{write-at, row-bit-at, covers, touches-chunk, chunks}
 use Rattle.cuts.proofs.Lengths.{length-apply-write-selective}
 use Rattle.cuts.proofs.Column.{byte-of-selective}

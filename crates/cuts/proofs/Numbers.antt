@@ -10,8 +10,8 @@ use mathlib.Core.List.{List, [], _∷_}
 use lib.Dec.{lit<}
 use lib.ListN.{length, getD, drop, take}
 use Rattle.region.proofs.Tab.{getD-tab}
-use Rattle.replay.specs.AsyncSpec.{Write, AsyncView, addr-to-chunk, flush-selective, committed, readable, can-crash}
-use Rattle.replay.specs.Choice.{touched, points, row-of, rows-of}
+use Rattle.pieces.specs.AsyncSpec.{Write, AsyncView, addr-to-chunk, flush-selective, committed, readable, can-crash}
+use Rattle.pieces.specs.Choice.{touched, points, row-of, rows-of}
 use Rattle.cuts.specs.Bits.{write-at, touches-chunk, agree-on-touched, chunks}
 use Rattle.cuts.specs.Number.{number-of, choice-image, choice-points}
 use Rattle.cuts.proofs.Basics.{inside-bounds, getD-tail}

@@ -7,7 +7,7 @@ use mathlib.Core.Bool.{Bool}
 use mathlib.Core.List.{List, [], _∷_, _++_}
 use lib.ListN.{length}
 use Rattle.region.specs.Pmemspec.{update-bytes}
-use Rattle.replay.specs.AsyncSpec.{Write, AsyncView, apply-write, apply-write-selective, flush-writes, flush-writes-selective, flush-selective, readable, write}
+use Rattle.pieces.specs.AsyncSpec.{Write, AsyncView, apply-write, apply-write-selective, flush-writes, flush-writes-selective, flush-selective, readable, write}
 use Rattle.cuts.specs.Bits.{new-write}
 
 -- a replay of two logs, one after the other, with the rows of each

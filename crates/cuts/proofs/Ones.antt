@@ -11,10 +11,10 @@ use lib.Arith.{lt-one}
 use lib.Pow.{shr-lt}
 use lib.Count.{ones, ones-cat}
 use Rattle.region.proofs.Tab.{getD-tab, inside-in}
-use Rattle.replay.specs.AsyncSpec.{Write, AsyncView, valid, addr-to-chunk}
-use Rattle.replay.specs.Choice.{touched, points, bit, row-of, rows-of}
-use Rattle.replay.specs.Rows.{set-bits}
-use Rattle.replay.specs.Kept.{kept, kept-of}
+use Rattle.pieces.specs.AsyncSpec.{Write, AsyncView, valid, addr-to-chunk}
+use Rattle.pieces.specs.Choice.{touched, points, bit, row-of, rows-of}
+use Rattle.pieces.specs.Rows.{set-bits}
+use Rattle.pieces.specs.Kept.{kept, kept-of}
 use Rattle.cuts.specs.Bits.{write-at, touches-chunk, chunks}
 use Rattle.cuts.specs.Number.{bits-below, number-of, choice-points}
 use Rattle.cuts.proofs.Digits.{shr-suc, bit-suc}

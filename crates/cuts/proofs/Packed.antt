@@ -10,8 +10,8 @@ use lib.ListN.{length, getD, List·getD-append, List·getD-eq-default}
 use lib.Seq.{ext-getD, getD-append-add}
 use Rattle.region.specs.Tab.{tab}
 use Rattle.region.proofs.Tab.{length-tab, getD-tab}
-use Rattle.replay.specs.Choice.{bit}
-use Rattle.replay.specs.Rows.{byte-bits, row-bytes, row-bit, row-at, row-filled, set-bits}
+use Rattle.pieces.specs.Choice.{bit}
+use Rattle.pieces.specs.Rows.{byte-bits, row-bytes, row-bit, row-at, row-filled, set-bits}
 use Rattle.cuts.specs.Packed.{packed-byte, packed-row, are-bytes}
 use Rattle.cuts.proofs.Digits.{bit-of-bits-below, bits-below-lt}
 

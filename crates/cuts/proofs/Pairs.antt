@@ -8,8 +8,8 @@ use mathlib.Core.Bool.{Bool, false}
 use mathlib.Core.List.{List, [], _∷_, _++_}
 use lib.ListN.{length, getD, List·getD-append}
 use Rattle.region.specs.Pmemspec.{can-result-from-partial-write}
-use Rattle.replay.specs.AsyncSpec.{Write, AsyncView, apply-write-selective, flush-selective, write, can-crash}
-use Rattle.replay.specs.Choice.{points, row-of, rows-of}
+use Rattle.pieces.specs.AsyncSpec.{Write, AsyncView, apply-write-selective, flush-selective, write, can-crash}
+use Rattle.pieces.specs.Choice.{points, row-of, rows-of}
 use Rattle.cuts.specs.Bits.{no-write, new-write, agree-on-touched, chunks}
 use Rattle.cuts.specs.Number.{number-of, choice-image, choice-points}
 use Rattle.cuts.proofs.OneMore.{cut-of-a-write}

@@ -11,7 +11,7 @@ use lib.Seq.{ext-getD}
 use Rattle.region.specs.Tab.{tab}
 use Rattle.region.specs.Pmemspec.{update-bytes, chunk-corresponds, can-result-from-partial-write}
 use Rattle.region.proofs.Tab.{length-tab, getD-tab}
-use Rattle.replay.specs.AsyncSpec.{Write, AsyncView, size-to-chunks, apply-write-selective, flush-selective, write, can-crash-as, can-crash}
+use Rattle.pieces.specs.AsyncSpec.{Write, AsyncView, size-to-chunks, apply-write-selective, flush-selective, write, can-crash-as, can-crash}
 use Rattle.cuts.specs.Bits.{new-write, covers, chunks}
 use Rattle.cuts.specs.Shape.{has-shape}
 use Rattle.cuts.proofs.Basics.{chunk-below}

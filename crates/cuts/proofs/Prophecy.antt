@@ -6,7 +6,7 @@ use mathlib.Core.Bool.{Bool, true, false}
 use mathlib.Core.List.{List, [], _∷_, _++_}
 use lib.ListN.{length}
 use Rattle.region.specs.View.{valid, can-result-from-write, flush-predicted}
-use Rattle.replay.specs.AsyncSpec.{AsyncView, flush-writes, flush-writes-selective, flush-selective, readable, write, can-crash-as, can-crash}
+use Rattle.pieces.specs.AsyncSpec.{AsyncView, flush-writes, flush-writes-selective, flush-selective, readable, write, can-crash-as, can-crash}
 use Rattle.cuts.specs.Bits.{keeps-all, chunks}
 use Rattle.cuts.specs.Shape.{has-shape}
 use Rattle.cuts.specs.Prophecy.{prophecy}

@@ -8,7 +8,7 @@ use mathlib.Core.List.{List, [], _∷_, _++_}
 use native.Mathlib.Numerals.{add-one}
 use lib.ListN.{length, getD, take, length-append, List·getD-append}
 use lib.Seq.{getD-at, getD-take, take-suc, take-all, length-take-le}
-use Rattle.replay.specs.AsyncSpec.{AsyncView, flush-selective, can-crash-as}
+use Rattle.pieces.specs.AsyncSpec.{AsyncView, flush-selective, can-crash-as}
 use Rattle.cuts.specs.Bits.{chunks}
 use Rattle.cuts.specs.Shape.{has-shape}
 use Rattle.cuts.proofs.Lengths.{length-flush-selective}

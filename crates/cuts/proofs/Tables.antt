@@ -11,8 +11,8 @@ use lib.Dec.{lit<}
 use lib.ListN.{length, getD, length-append}
 use borrow.Author.Tests.{eq-eqb}
 use Rattle.region.proofs.Tab.{length-tab}
-use Rattle.replay.specs.AsyncSpec.{AsyncView, flush-selective, can-crash}
-use Rattle.replay.specs.Rows.{row-bytes, row-at, rows-at, rows-filled, rows-right}
+use Rattle.pieces.specs.AsyncSpec.{AsyncView, flush-selective, can-crash}
+use Rattle.pieces.specs.Rows.{row-bytes, row-at, rows-at, rows-filled, rows-right}
 use Rattle.cuts.specs.Bits.{chunks}
 use Rattle.cuts.specs.Shape.{has-shape}
 use Rattle.cuts.specs.Packed.{packed-row, packed, are-bytes}

@@ -5,9 +5,9 @@ use native.Mathlib.Omega.{arith}
 use mathlib.Core.Path.{_≡_}
 use mathlib.Core.Bool.{Bool, true}
 use mathlib.Core.List.{List}
-use Rattle.replay.specs.AsyncSpec.{AsyncView, len, valid, size-to-chunks}
-use Rattle.replay.specs.Choice.{touched, touches, points}
-use Rattle.replay.specs.Kept.{kept}
+use Rattle.pieces.specs.AsyncSpec.{AsyncView, len, valid, size-to-chunks}
+use Rattle.pieces.specs.Choice.{touched, touches, points}
+use Rattle.pieces.specs.Kept.{kept}
 use Rattle.cuts.specs.Bits.{write-at, touches-chunk, keeps-all, agree-on-touched, chunks}
 use Rattle.cuts.proofs.Basics.{inside-bounds, chunk-mono, chunk-below}
 use Rattle.cuts.proofs.Choices.{touching-write-is-logged}

@@ -5,8 +5,8 @@ use mathlib.Core.Bool.{Bool, true, false}
 use mathlib.Core.List.{List, []}
 use lib.ListN.{length, getD}
 use Rattle.region.specs.Tab.{inside}
-use Rattle.replay.specs.AsyncSpec.{Write, AsyncView, len, size-to-chunks}
-use Rattle.replay.specs.Choice.{touches}
+use Rattle.pieces.specs.AsyncSpec.{Write, AsyncView, len, size-to-chunks}
+use Rattle.pieces.specs.Choice.{touches}
 
 -- what stands past the end of a log: it covers no byte and touches no chunk
 abbrev pub no-write : Write

@@ -3,8 +3,8 @@ use Prim.Native.Nat.{ℕ, zero, suc, _+_, _*_}
 use mathlib.Core.Bool.{Bool, false, cond}
 use mathlib.Core.List.{List, [], _∷_}
 use lib.ListN.{length, getD, drop}
-use Rattle.replay.specs.AsyncSpec.{Write, AsyncView, addr-to-chunk, flush-selective}
-use Rattle.replay.specs.Choice.{touched, points, rows-of}
+use Rattle.pieces.specs.AsyncSpec.{Write, AsyncView, addr-to-chunk, flush-selective}
+use Rattle.pieces.specs.Choice.{touched, points, rows-of}
 use Rattle.cuts.specs.Bits.{chunks}
 
 -- the bits f from, f (from + 1), .., n of them, lowest first, put below the bits of hi

@@ -4,7 +4,7 @@ use mathlib.Core.Bool.{Bool, false}
 use mathlib.Core.List.{List, [], _∷_, _++_}
 use lib.ListN.{getD}
 use Rattle.region.specs.Tab.{tab}
-use Rattle.replay.specs.Rows.{byte-bits, row-bytes}
+use Rattle.pieces.specs.Rows.{byte-bits, row-bytes}
 use Rattle.cuts.specs.Number.{bits-below}
 
 -- byte k of a row. A bit past the row's end is zero.

@@ -4,7 +4,7 @@ use Prim.Native.Nat.{ℕ}
 use mathlib.Core.Bool.{Bool, cond}
 use mathlib.Core.List.{List}
 use Rattle.region.specs.View.{PersistentMemoryRegionView}
-use Rattle.replay.specs.AsyncSpec.{AsyncView, flush-selective, readable}
+use Rattle.pieces.specs.AsyncSpec.{AsyncView, flush-selective, readable}
 
 abbrev pub prophecy : ℕ → Bool → AsyncView → List (List Bool) → PersistentMemoryRegionView
 prophecy C flushed v rows = record { read-state = readable v; durable-state = cond flushed (readable v) (flush-selective C v rows) }

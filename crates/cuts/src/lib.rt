@@ -1,1 +1,1 @@
-// Which images a power cut could leave: laws alone, over the definitions of `region` and `replay`. There is no code here, and nothing is assumed.
+// Which images a power cut could leave: laws alone, over the definitions of `region` and `pieces`. There is no code here, and nothing is assumed.

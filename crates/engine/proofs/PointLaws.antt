@@ -10,8 +10,8 @@ use lib.Seq.{length-take-le}
 use borrow.Author.Tests.{le-leb, leb-true}
 use Rattle.region.specs.Limits.{const-persistence-chunk-size}
 use Rattle.region.proofs.Booleans.{both, both-true}
-use Rattle.replay.specs.Choice.{touched, points}
-use Rattle.replay.specs.AsyncSpec.{write}
+use Rattle.pieces.specs.Choice.{touched, points}
+use Rattle.pieces.specs.AsyncSpec.{write}
 use Rattle.cuts.specs.Number.{choice-points}
 use Rattle.cuts.proofs.Choices.{points-of-one-more}
 use Rattle.records.specs.State.{log-records, together, writes-of, records-inside, sound, view}

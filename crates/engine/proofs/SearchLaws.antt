@@ -11,18 +11,18 @@ use lib.Dec.{lit<}
 use lib.ListN.{length}
 use lib.Pow.{shl-exact, pow-pos}
 use Rattle.region.specs.Limits.{points-limit, const-persistence-chunk-size}
-use Rattle.replay.specs.AsyncSpec.{AsyncView, write}
+use Rattle.pieces.specs.AsyncSpec.{AsyncView, write}
 use Rattle.cuts.specs.Number.{choice-image, choice-points}
-use Rattle.verdict.specs.Search.{admit, deny, verdict-from}
-use Rattle.verdict.specs.Gate.{gate-test}
-use Rattle.verdict.proofs.Search.{verdict-at-start, verdict-goes-on, verdict-stops, verdict-at-end}
-use Rattle.verdict.proofs.Gate.{last-trial-is-the-read-image}
+use Rattle.cuts.specs.Search.{none-bad, first-bad, finding-from}
+use Rattle.cuts.specs.Gate.{gate-test}
+use Rattle.cuts.proofs.Search.{finding-at-start, finding-goes-on, finding-stops, finding-at-end}
+use Rattle.cuts.proofs.Gate.{last-trial-is-the-read-image}
 use Rattle.sheet.specs.Sheet.{obeys}
 use Rattle.sheet.proofs.Laws.{before-unseen}
 use Rattle.records.specs.State.{view}
 use Rattle.records.specs.declared.state.State.{State}
 use Rattle.engine.specs.declared.search.Outcome.the-variants.{AllGood, FirstBad}
-use Rattle.engine.specs.Search.{Ready, Searches, sheet-verdict, sheet-image}
+use Rattle.engine.specs.Search.{Ready, Searches, sheet-finding, sheet-image}
 use Rattle.engine.proofs.PointLaws.{points-with-a-write}
 
 -- the numbers of few points fit a word
@@ -46,7 +46,7 @@ test v sheet addr bytes = gate-test const-persistence-chunk-size (λ before afte
 pub record Tried (v : AsyncView) (sheet : List ℕ) (addr : ℕ) (bytes : List ℕ) (n : ℕ) (work : List ℕ) (m : ℕ) : Type 0 where
   pub within : m ≤ 2 ^ n
   pub last : 0 < m → work ≡ trial-of v addr bytes (m - 1)
-  pub remains : verdict-from (test v sheet addr bytes) m (2 ^ n - m) ≡ sheet-verdict sheet v addr bytes
+  pub remains : finding-from (test v sheet addr bytes) m (2 ^ n - m) ≡ sheet-finding sheet v addr bytes
 
 module _ {v : AsyncView} {sheet : List ℕ} {addr : ℕ} {bytes : List ℕ} {n : ℕ} where
   pub tried-none : {work : List ℕ} → choice-points const-persistence-chunk-size (write v addr bytes) ≡ n → Tried v sheet addr bytes n work 0
@@ -55,7 +55,7 @@ module _ {v : AsyncView} {sheet : List ℕ} {addr : ℕ} {bytes : List ℕ} {n :
       record {
         within = omega arith;
         last = λ h. absurd (omega arith);
-        remains = ap (verdict-from good 0) (sub-zero (2 ^ n) ∙ ap (λ (k : ℕ). 2 ^ k) (sym counted)) ∙ sym (verdict-at-start good (2 ^ choice-points const-persistence-chunk-size (write v addr bytes)));
+        remains = ap (finding-from good 0) (sub-zero (2 ^ n) ∙ ap (λ (k : ℕ). 2 ^ k) (sym counted)) ∙ sym (finding-at-start good (2 ^ choice-points const-persistence-chunk-size (write v addr bytes)));
       }
 
   module _ {work : List ℕ} {m : ℕ} (t : Tried v sheet addr bytes n work m) where
@@ -73,13 +73,13 @@ module _ {v : AsyncView} {sheet : List ℕ} {addr : ℕ} {bytes : List ℕ} {n :
           record {
             within = omega arith;
             last = λ h. here ∙ ap (trial-of v addr bytes) (omega arith);
-            remains = ap (λ (k : ℕ). verdict-from good k (2 ^ n - (m + 1))) (add-one m) ∙ sym (verdict-goes-on good m (2 ^ n - (m + 1)) (judged-so e)) ∙ ap (verdict-from good m) (sym one-off) ∙ t .remains;
+            remains = ap (λ (k : ℕ). finding-from good k (2 ^ n - (m + 1))) (add-one m) ∙ sym (finding-goes-on good m (2 ^ n - (m + 1)) (judged-so e)) ∙ ap (finding-from good m) (sym one-off) ∙ t .remains;
           }
 
       pub found-bad : obeys sheet work′ work′ ≡ false → Searches v sheet addr bytes (FirstBad m) work′
       found-bad e =
           let good = test v sheet addr bytes in
-          let denied : deny m ≡ sheet-verdict sheet v addr bytes = sym (verdict-stops good m (2 ^ n - (m + 1)) (judged-so e)) ∙ ap (verdict-from good m) (sym one-off) ∙ t .remains in
+          let denied : first-bad m ≡ sheet-finding sheet v addr bytes = sym (finding-stops good m (2 ^ n - (m + 1)) (judged-so e)) ∙ ap (finding-from good m) (sym one-off) ∙ t .remains in
           record { answers = denied; work-after = here ∙ ap (sheet-image v addr bytes) denied }
 
     -- all numbers tried: the last one left the read image
@@ -89,7 +89,7 @@ module _ {v : AsyncView} {sheet : List ℕ} {addr : ℕ} {bytes : List ℕ} {n :
         let some = pow-pos n in
         let all : m ≡ 2 ^ n = omega (arith, t .within) in
         let none : 2 ^ n - m ≡ 0 = omega arith in
-        let admitted : admit ≡ sheet-verdict sheet v addr bytes = sym (verdict-at-end good m) ∙ ap (verdict-from good m) (sym none) ∙ t .remains in
+        let admitted : none-bad ≡ sheet-finding sheet v addr bytes = sym (finding-at-end good m) ∙ ap (finding-from good m) (sym none) ∙ t .remains in
         record {
           answers = admitted;
           work-after = t .last (omega arith) ∙ ap (λ (k : ℕ). trial-of v addr bytes (k - 1)) (all ∙ ap (λ (k : ℕ). 2 ^ k) (sym counted)) ∙ last-trial-is-the-read-image const-persistence-chunk-size (lit< tt) v addr bytes ∙ ap (sheet-image v addr bytes) admitted;

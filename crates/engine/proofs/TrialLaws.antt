@@ -7,8 +7,8 @@ use mathlib.Core.List.{List}
 use lib.Dec.{lit<}
 use lib.ListN.{length, take, drop}
 use Rattle.region.specs.Limits.{const-persistence-chunk-size}
-use Rattle.replay.specs.AsyncSpec.{Write, size-to-chunks, apply-write-selective, flush-writes-selective, write}
-use Rattle.replay.specs.Choice.{touched, row-of, rows-of}
+use Rattle.pieces.specs.AsyncSpec.{Write, size-to-chunks, apply-write-selective, flush-writes-selective, write}
+use Rattle.pieces.specs.Choice.{touched, row-of, rows-of}
 use Rattle.cuts.specs.Bits.{new-write}
 use Rattle.cuts.specs.Number.{choice-image, choice-points}
 use Rattle.cuts.proofs.Pairs.{choice-of-a-write}

@@ -6,8 +6,8 @@ use mathlib.Core.Bool.{true}
 use mathlib.Core.List.{List, [], _∷_}
 use lib.ListN.{length}
 use Rattle.region.specs.Limits.{image-limit, writes-limit, log-limit}
-use Rattle.replay.specs.AsyncSpec.{size-to-chunks, flush-writes-selective}
-use Rattle.replay.specs.Choice.{touched, rows-of}
+use Rattle.pieces.specs.AsyncSpec.{size-to-chunks, flush-writes-selective}
+use Rattle.pieces.specs.Choice.{touched, rows-of}
 use Rattle.records.specs.State.{log-records, together, records-inside}
 use Rattle.records.specs.Log.{last-writes}
 use Rattle.records.specs.declared.state.Record.{Record}

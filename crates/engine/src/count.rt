@@ -1,7 +1,7 @@
 // The choice points of the log.
+use pieces::points::touched;
 use records::state::Record;
 use records::state::State;
-use replay::points::touched;
 ghost use mathlib.Core.Path.{_≡_};
 ghost use Rattle.region.specs.Limits.{const-persistence-chunk-size};
 ghost use Rattle.records.specs.State.{log-records};

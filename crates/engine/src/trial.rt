@@ -1,15 +1,15 @@
 // One trial: the image that a choice number leaves, with the new write in the log.
+use pieces::lay::lay;
+use pieces::lay::lay_chosen;
+use pieces::points::touched;
 use records::state::Record;
 use records::state::State;
-use replay::lay::lay;
-use replay::lay::lay_chosen;
-use replay::points::touched;
 ghost use mathlib.Core.Path.{_≡_};
 ghost use Prim.Native.Nat.{_+_, _≤_};
 ghost use lib.ListN.{length};
 ghost use Rattle.region.specs.Limits.{const-persistence-chunk-size, points-limit};
-ghost use Rattle.replay.specs.AsyncSpec.{write};
-ghost use Rattle.replay.specs.Choice.{touched};
+ghost use Rattle.pieces.specs.AsyncSpec.{write};
+ghost use Rattle.pieces.specs.Choice.{touched};
 ghost use Rattle.cuts.specs.Number.{choice-image};
 ghost use Rattle.records.specs.State.{view};
 ghost use Rattle.records.specs.Log.{last-records, Remaining};

@@ -12,7 +12,7 @@ use borrow.Author.Tests.{le-leb, lt-leb, leb-true, lt-ltb, le-ltb, ltb-true, eq-
 use Rattle.region.specs.Answer.{unless}
 use Rattle.region.proofs.AnswerLaws.{passed}
 use Rattle.region.proofs.Booleans.{cond-when, cond-unless, and-when, and-unless, both}
-use Rattle.replay.specs.Rows.{rows-filled}
+use Rattle.pieces.specs.Rows.{rows-filled}
 use Rattle.epochs.specs.Epoch.{flush-header, cut-header, header, flush-foretold, header-right, row-place, epoch-there, epoch-number}
 
 -- what it means that the epoch is there, and that it is right

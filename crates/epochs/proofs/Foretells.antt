@@ -8,8 +8,8 @@ use mathlib.Core.List.{List, [], _∷_, _++_}
 use lib.ListN.{length, length-append}
 use Rattle.region.specs.Pmemspec.{update-bytes}
 use Rattle.region.specs.View.{valid, can-result-from-write, flush-predicted}
-use Rattle.replay.specs.AsyncSpec.{AsyncView, size-to-chunks, write, flush-selective, apply-write-selective, can-crash-as, can-crash}
-use Rattle.replay.specs.Rows.{row-at}
+use Rattle.pieces.specs.AsyncSpec.{AsyncView, size-to-chunks, write, flush-selective, apply-write-selective, can-crash-as, can-crash}
+use Rattle.pieces.specs.Rows.{row-at}
 use Rattle.cuts.specs.Bits.{new-write, chunks}
 use Rattle.cuts.proofs.OneMore.{cut-of-a-write, read-of-a-write}
 use Rattle.cuts.proofs.Shape.{shaped-rows-crash}

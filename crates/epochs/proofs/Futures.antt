@@ -10,7 +10,7 @@ use lib.ListN.{length, getD, drop, length-append}
 use lib.Seq.{getD-append-seam, drop-append-add}
 use borrow.Author.Tests.{eqb-true, le-leb}
 use Rattle.region.proofs.Booleans.{both, both-true}
-use Rattle.replay.specs.Rows.{row-bytes, rows-at, rows-filled, byte-bits}
+use Rattle.pieces.specs.Rows.{row-bytes, rows-at, rows-filled, byte-bits}
 use Rattle.cuts.specs.Packed.{packed, are-bytes}
 use Rattle.cuts.proofs.Packed.{bytes-of-append}
 use Rattle.cuts.proofs.Tables.{packed-is-right}

@@ -6,7 +6,7 @@ use mathlib.Core.List.{List}
 use lib.ListN.{length}
 use Rattle.region.specs.Limits.{const-persistence-chunk-size}
 use Rattle.region.proofs.Booleans.{cond-when, cond-unless}
-use Rattle.replay.specs.AsyncSpec.{Write, AsyncView, size-to-chunks, committed, readable, flush-writes, flush-writes-selective, flush-selective}
+use Rattle.pieces.specs.AsyncSpec.{Write, AsyncView, size-to-chunks, committed, readable, flush-writes, flush-writes-selective, flush-selective}
 use Rattle.records.specs.State.{view}
 use Rattle.records.specs.Log.{last-writes}
 use Rattle.records.specs.declared.state.State.{State}

@@ -9,8 +9,8 @@ use lib.Dec.{eqb}
 use lib.ListN.{length, getD, drop, List·getD-append}
 use lib.Seq.{getD-drop}
 use Rattle.region.proofs.Tab.{agree-tab}
-use Rattle.replay.specs.Rows.{byte-bits, row-bytes, row-bit, row-at, rows-at, row-filled, rows-filled}
-use Rattle.replay.proofs.ByteBits.{set-bits-agree}
+use Rattle.pieces.specs.Rows.{byte-bits, row-bytes, row-bit, row-at, rows-at, row-filled, rows-filled}
+use Rattle.pieces.proofs.ByteBits.{set-bits-agree}
 
 -- a table behind `skip` other bytes
 module _ (K : ℕ) (tape : List ℕ) (skip : ℕ) where

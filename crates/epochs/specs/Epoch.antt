@@ -6,7 +6,7 @@ use mathlib.Core.List.{List}
 use lib.Dec.{leb, ltb, eqb}
 use lib.ListN.{length, getD}
 use Rattle.region.specs.Answer.{unless}
-use Rattle.replay.specs.Rows.{row-bytes, rows-at, rows-filled}
+use Rattle.pieces.specs.Rows.{row-bytes, rows-at, rows-filled}
 
 -- "Its header byte is 80 (a flush will end it) or 00 (a cut will)"
 abbrev pub flush-header : ℕ

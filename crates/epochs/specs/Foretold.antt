@@ -4,7 +4,7 @@ use Prim.Native.Nat.{ℕ}
 use mathlib.Core.List.{List}
 use lib.ListN.{length}
 use Rattle.region.specs.View.{PersistentMemoryRegionView}
-use Rattle.replay.specs.AsyncSpec.{AsyncView, len, size-to-chunks}
+use Rattle.pieces.specs.AsyncSpec.{AsyncView, len, size-to-chunks}
 use Rattle.region.specs.Limits.{const-persistence-chunk-size}
 use Rattle.cuts.specs.Prophecy.{prophecy}
 use Rattle.records.specs.State.{view}

@@ -4,7 +4,7 @@ use mathlib.Core.Path.{_≡_}
 use mathlib.Core.List.{List}
 use lib.ListN.{length}
 use Rattle.region.specs.Limits.{image-limit, const-persistence-chunk-size}
-use Rattle.replay.specs.AsyncSpec.{size-to-chunks}
+use Rattle.pieces.specs.AsyncSpec.{size-to-chunks}
 use Rattle.records.specs.Log.{Remaining}
 use Rattle.records.specs.declared.state.State.{State}
 use Rattle.epochs.specs.Epoch.{row-place}

@@ -1,15 +1,15 @@
 // An epoch of the tape: its header, and whether its rows are there and rightly filled.
+use pieces::rows::row_bytes;
+use pieces::rows::rows_filled;
 use region::Answer;
 use region::Refusal;
 use region::chunks::size_to_chunks;
-use replay::rows::row_bytes;
-use replay::rows::rows_filled;
 ghost use mathlib.Core.Path.{_≡_};
 ghost use Prim.Native.Nat.{_+_, _*_, _≤_, _<_};
 ghost use lib.ListN.{length};
 ghost use Rattle.region.specs.Answer.{answer-number};
 ghost use Rattle.region.specs.Limits.{image-limit, writes-limit, const-persistence-chunk-size};
-ghost use Rattle.replay.specs.AsyncSpec.{size-to-chunks};
+ghost use Rattle.pieces.specs.AsyncSpec.{size-to-chunks};
 ghost use Rattle.epochs.specs.Epoch.{flush-foretold, epoch-there, epoch-number};
 
 // A flush will end the epoch.

@@ -1,11 +1,11 @@
 // The predicted image, computed from image, log and rows each time, whatever the buffer held.
 use crate::epoch::flush_foretold;
+use pieces::lay::lay;
+use pieces::rows::row_bytes;
 use records::log::replay_selected;
 use records::log::replay_whole;
 use records::state::State;
 use region::chunks::size_to_chunks;
-use replay::lay::lay;
-use replay::rows::row_bytes;
 ghost use mathlib.Core.Path.{_≡_};
 ghost use lib.ListN.{length};
 ghost use Rattle.epochs.specs.Foretold.{predicted-now};

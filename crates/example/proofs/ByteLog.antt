@@ -12,9 +12,9 @@ use lib.Seq.{getD-set-same, set-getD, set-set}
 use borrow.Author.Tests.{lt-ltb}
 use Rattle.region.specs.Pmemspec.{update-bytes}
 use Rattle.region.proofs.Booleans.{both, both-true}
-use Rattle.replay.specs.AsyncSpec.{Write, AsyncView, apply-write-selective, flush-writes, flush-writes-selective, readable, can-crash}
-use Rattle.replay.specs.Choice.{touched, points}
-use Rattle.replay.proofs.Laid.{lay, update-is-lay, lay-none, lay-kept, lay-lost}
+use Rattle.pieces.specs.AsyncSpec.{Write, AsyncView, apply-write-selective, flush-writes, flush-writes-selective, readable, can-crash}
+use Rattle.pieces.specs.Choice.{touched, points}
+use Rattle.pieces.proofs.Laid.{lay, update-is-lay, lay-none, lay-kept, lay-lost}
 use Rattle.cuts.specs.Bits.{new-write}
 use Rattle.example.specs.Valid.{one-of, valid}
 

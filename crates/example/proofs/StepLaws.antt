@@ -17,8 +17,8 @@ use Rattle.region.specs.declared.Answer.{Answer}
 use Rattle.region.specs.declared.Answer.the-variants as answers
 use Rattle.region.proofs.Booleans.{both, both-true}
 use Rattle.region.proofs.AnswerLaws.{answers-by-number, changed}
-use Rattle.replay.specs.AsyncSpec.{AsyncView, Write, write, readable, can-crash}
-use Rattle.replay.specs.Choice.{points}
+use Rattle.pieces.specs.AsyncSpec.{AsyncView, Write, write, readable, can-crash}
+use Rattle.pieces.specs.Choice.{points}
 use Rattle.sheet.specs.Sheet.{obeys}
 use Rattle.sheet.proofs.Laws.{obeyed-is-formed}
 use Rattle.records.specs.State.{log-records, together, writes-of, view, appended, log-with, emptied}

@@ -1,8 +1,8 @@
 // `setup` of `ExampleApp`. The source loops for ever where the address lies outside; here that is 2.
+use pieces::lay::lay;
 use region::Answer;
 use region::IMAGE_LIMIT;
 use region::Refusal;
-use replay::lay::lay;
 ghost use Rattle.example.specs.Setup.{SetsUp};
 
 // Makes the byte at `addr` val0, and leaves every other byte.

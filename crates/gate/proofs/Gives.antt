@@ -12,7 +12,7 @@ use Rattle.region.specs.declared.Refusal.{Refusal}
 use Rattle.region.specs.declared.Answer.{Answer}
 use Rattle.region.specs.declared.Answer.the-variants.{Done}
 use Rattle.region.proofs.AnswerLaws.{answers-by-number, changed, left, refusal-not-done}
-use Rattle.replay.specs.AsyncSpec.{write, readable, can-crash}
+use Rattle.pieces.specs.AsyncSpec.{write, readable, can-crash}
 use Rattle.cuts.proofs.Always.{cut-of-nothing}
 use Rattle.sheet.specs.Sheet.{obeys}
 use Rattle.records.specs.State.{view, appended, log-with, emptied}

@@ -15,7 +15,7 @@ use Rattle.region.specs.declared.Refusal.{Refusal}
 use Rattle.region.specs.declared.Refusal.the-variants.{BadState, BadSheet, TooManyPoints}
 use Rattle.region.proofs.AnswerLaws.{done-changed, not-done, refusal-not-done}
 use Rattle.region.proofs.Booleans.{cond-when, cond-unless, and-unless, both, both-true}
-use Rattle.verdict.specs.Search as search
+use Rattle.cuts.specs.Search as search
 use Rattle.sheet.specs.Sheet.{well-formed}
 use Rattle.records.specs.State.{view, sound, appended, log-with}
 use Rattle.writelog.specs.Write.{room-number}
@@ -23,17 +23,17 @@ use Rattle.records.specs.declared.state.State.{State}
 use Rattle.writelog.proofs.WriteLaws.{room-done, room-there}
 use Rattle.engine.specs.declared.search.Outcome.{Outcome}
 use Rattle.engine.specs.declared.search.Outcome.the-variants.{AllGood, FirstBad}
-use Rattle.engine.specs.Search.{searched, sheet-verdict, Searches}
+use Rattle.engine.specs.Search.{searched, sheet-finding, Searches}
 use Rattle.gate.specs.declared.Verdict.{Verdict}
 use Rattle.gate.specs.declared.Verdict.the-variants.{Admitted, Denied, Refused}
 use Rattle.gate.specs.Meaning.{Fits}
 use Rattle.gate.specs.Judgement.{denied-number, verdict-report, Judgement, refused, tried, gate-points, weighed, fitted, judgement, judgement-report, judgement-work, judge-report, judge-number, judge-work, Judges, Gates, Weighs}
 
 -- the tests of a judgement, as bare values: all are passed, or one refuses, with a number above 0
-abbrev tests : Bool → Bool → ℕ → Bool → search.Verdict → Judgement
+abbrev tests : Bool → Bool → ℕ → Bool → search.Finding → Judgement
 tests t₁ t₂ k t₃ r = unless t₁ (refused 1) (unless t₂ (refused 5) (if-done k (unless t₃ (refused 7) (tried r)) (refused k)))
 
-passed-or-refused : (t₁ t₂ : Bool) (k : ℕ) (t₃ : Bool) (r : search.Verdict)
+passed-or-refused : (t₁ t₂ : Bool) (k : ℕ) (t₃ : Bool) (r : search.Finding)
     → ((t₁ ≡ true) × (t₂ ≡ true) × (k ≡ 0) × (t₃ ≡ true)) ⊎ ((why : ℕ) × (0 < why) × (tests t₁ t₂ k t₃ r ≡ refused why))
 passed-or-refused true true zero true r = inl (refl, refl, refl, refl)
 passed-or-refused true true zero false r = inr (7, omega arith, refl)
@@ -56,17 +56,17 @@ pub one-value : {m n : ℕ} → _≡_ {A = List ℕ} (m ∷ []) (n ∷ []) → m
 one-value e = cc
 
 -- what the report of a judgement on all images tells
-admit-reported : (n : ℕ) (r : search.Verdict) → judgement-report n (tried r) .number ≡ 0 → r ≡ search.admit
-admit-reported n search.admit e = refl
-admit-reported n (search.deny m) e = absurd (suc-ne-zero 7 e)
+admit-reported : (n : ℕ) (r : search.Finding) → judgement-report n (tried r) .number ≡ 0 → r ≡ search.none-bad
+admit-reported n search.none-bad e = refl
+admit-reported n (search.first-bad m) e = absurd (suc-ne-zero 7 e)
 
-deny-reported : (n m : ℕ) (r : search.Verdict) → judgement-report n (tried r) ≡ record { number = denied-number; values = m ∷ [] } → r ≡ search.deny m
-deny-reported n m search.admit e = absurd (suc-ne-zero 7 (sym (same-number e)))
-deny-reported n m (search.deny k) e = ap search.deny (one-value (same-values e))
+deny-reported : (n m : ℕ) (r : search.Finding) → judgement-report n (tried r) ≡ record { number = denied-number; values = m ∷ [] } → r ≡ search.first-bad m
+deny-reported n m search.none-bad e = absurd (suc-ne-zero 7 (sym (same-number e)))
+deny-reported n m (search.first-bad k) e = ap search.first-bad (one-value (same-values e))
 
-some-reported : (n : ℕ) (r : search.Verdict) → [] ≡ judgement-report n (tried r) .values → ⊥
-some-reported n search.admit e = nothing-reported e
-some-reported n (search.deny m) e = nothing-reported e
+some-reported : (n : ℕ) (r : search.Finding) → [] ≡ judgement-report n (tried r) .values → ⊥
+some-reported n search.none-bad e = nothing-reported e
+some-reported n (search.first-bad m) e = nothing-reported e
 
 -- the test of 1
 abbrev first : List ℕ → State → List ℕ → List ℕ → Bool
@@ -74,7 +74,7 @@ first image st log work = sound (length image) st (length log) && eqb (length wo
 
 -- few enough points: all images are tried
 weighed-few : (image : List ℕ) (st : State) (log sheet : List ℕ) (addr : ℕ) (bytes : List ℕ) → gate-points image st log addr bytes ≤ points-limit
-    → weighed image st log sheet addr bytes ≡ tried (sheet-verdict sheet (view image st log) addr bytes)
+    → weighed image st log sheet addr bytes ≡ tried (sheet-finding sheet (view image st log) addr bytes)
 weighed-few image st log sheet addr bytes h = cond-when (leb (gate-points image st log addr bytes) points-limit) _ (refused 7) (le-leb (gate-points image st log addr bytes) points-limit h)
 
 module _ (image : List ℕ) (st : State) (log sheet work : List ℕ) (addr : ℕ) (bytes : List ℕ) where
@@ -85,8 +85,8 @@ module _ (image : List ℕ) (st : State) (log sheet work : List ℕ) (addr : ℕ
   abbrev points : ℕ
   points = gate-points image st log addr bytes
 
-  abbrev verdict-on : search.Verdict
-  verdict-on = sheet-verdict sheet (view image st log) addr bytes
+  abbrev finding-on : search.Finding
+  finding-on = sheet-finding sheet (view image st log) addr bytes
 
   -- the tests that were passed
   module _ (good : sound (length image) st (length log) ≡ true) (same : length work ≡ length image) where
@@ -101,7 +101,7 @@ module _ (image : List ℕ) (st : State) (log sheet work : List ℕ) (addr : ℕ
   fits-room f = room-there (length image) st addr (length bytes) (le-leb (addr + length bytes) (length image) (f .lies)) (f .few-writes) (f .few-bytes)
 
   -- a write that fits is judged on all its images, and no other is
-  pub fitting-tried : Fits image st log sheet work addr bytes → J ≡ tried verdict-on
+  pub fitting-tried : Fits image st log sheet work addr bytes → J ≡ tried finding-on
   fitting-tried f = by-room (f .good) (f .same) (f .formed) (fits-room f) ∙ weighed-few image st log sheet addr bytes (f .few-points)
 
   pub fits-or-refused : Fits image st log sheet work addr bytes ⊎ ((why : ℕ) × (0 < why) × (J ≡ refused why))
@@ -120,18 +120,18 @@ module _ (image : List ℕ) (st : State) (log sheet work : List ℕ) (addr : ℕ
         few-points = leb-true points points-limit (t .3);
       }))
       inr
-      (passed-or-refused (first image st log work) (well-formed sheet) (room-number (length image) st addr (length bytes)) (leb points points-limit) verdict-on)
+      (passed-or-refused (first image st log work) (well-formed sheet) (room-number (length image) st addr (length bytes)) (leb points points-limit) finding-on)
 
   -- number 0: the write fits and is admitted
-  pub number-0-fits : judge-number image st log sheet work addr bytes ≡ 0 → Fits image st log sheet work addr bytes × (verdict-on ≡ search.admit)
+  pub number-0-fits : judge-number image st log sheet work addr bytes ≡ 0 → Fits image st log sheet work addr bytes × (finding-on ≡ search.none-bad)
   number-0-fits none =
       ⊎-elim
-      (λ f. (f, admit-reported points verdict-on (rw (fitting-tried f, judge-number) at none)))
+      (λ f. (f, admit-reported points finding-on (rw (fitting-tried f, judge-number) at none)))
       (λ w. absurd (omega (arith, w .1, rw (w .2, judge-number) at none)))
       fits-or-refused
 
   -- number 8 with m: it fits, and m is the first bad number
-  pub report-8-fits : (m : ℕ) → judge-report image st log sheet work addr bytes ≡ record { number = denied-number; values = m ∷ [] } → Fits image st log sheet work addr bytes × (verdict-on ≡ search.deny m)
+  pub report-8-fits : (m : ℕ) → judge-report image st log sheet work addr bytes ≡ record { number = denied-number; values = m ∷ [] } → Fits image st log sheet work addr bytes × (finding-on ≡ search.first-bad m)
   report-8-fits m e =
       ⊎-elim
       (λ f. (f, deny-reported _ m _ (rw (fitting-tried f) at e)))
@@ -142,7 +142,7 @@ module _ (image : List ℕ) (st : State) (log sheet work : List ℕ) (addr : ℕ
   no-image-judged : [] ≡ judge-report image st log sheet work addr bytes .values → judge-work image st log sheet work addr bytes ≡ work
   no-image-judged e =
       ⊎-elim
-      (λ f. absurd (some-reported points verdict-on (rw (fitting-tried f) at e)))
+      (λ f. absurd (some-reported points finding-on (rw (fitting-tried f) at e)))
       (λ w. ap (λ (j : Judgement). judgement-work (view image st log) addr bytes j work) (w .2))
       fits-or-refused
 
@@ -188,7 +188,7 @@ module _ {image : List ℕ} {st : State} {log sheet work : List ℕ} {addr : ℕ
 
   module _ (few : gate-points image st log addr bytes ≤ points-limit) {outcome : Outcome} {work′ : List ℕ} (s : Searches (view image st log) sheet addr bytes outcome work′) where
     weighs-searched : (answer : Verdict) → verdict-report answer ≡ judgement-report (gate-points image st log addr bytes) (tried (searched outcome)) → Weighs image st log sheet work addr bytes answer work′
-    weighs-searched answer e = weighs-so (weighed-few image st log sheet addr bytes few) (e ∙ ap (λ (r : search.Verdict). judgement-report (gate-points image st log addr bytes) (tried r)) (s .answers)) (s .work-after)
+    weighs-searched answer e = weighs-so (weighed-few image st log sheet addr bytes few) (e ∙ ap (λ (r : search.Finding). judgement-report (gate-points image st log addr bytes) (tried r)) (s .answers)) (s .work-after)
 
     pub weighs-admitted : {n : ℕ} → outcome ≡ AllGood → n ≡ gate-points image st log addr bytes → Weighs image st log sheet work addr bytes (Admitted n) work′
     weighs-admitted {n} o e = weighs-searched (Admitted n) (rw (o, e))
@@ -198,10 +198,10 @@ module _ {image : List ℕ} {st : State} {log sheet work : List ℕ} {addr : ℕ
 
   -- what is done with a judged write
   module _ {answer : Verdict} {work′ : List ℕ} (j : Judges image st log sheet work addr bytes answer work′) where
-    pub admitted-fits : {n : ℕ} → answer ≡ Admitted n → Fits image st log sheet work addr bytes × (sheet-verdict sheet (view image st log) addr bytes ≡ search.admit)
+    pub admitted-fits : {n : ℕ} → answer ≡ Admitted n → Fits image st log sheet work addr bytes × (sheet-finding sheet (view image st log) addr bytes ≡ search.none-bad)
     admitted-fits a = number-0-fits image st log sheet work addr bytes (admitted-number image st log sheet work addr bytes j a)
 
-    pub denied-fits : {m : ℕ} → answer ≡ Denied m → Fits image st log sheet work addr bytes × (sheet-verdict sheet (view image st log) addr bytes ≡ search.deny m)
+    pub denied-fits : {m : ℕ} → answer ≡ Denied m → Fits image st log sheet work addr bytes × (sheet-finding sheet (view image st log) addr bytes ≡ search.first-bad m)
     denied-fits {m} d = report-8-fits image st log sheet work addr bytes m (sym (j .answers) ∙ ap verdict-report d)
 
     -- a refusal judged nothing

@@ -10,16 +10,16 @@ use Rattle.region.specs.Limits.{const-persistence-chunk-size}
 use Rattle.region.specs.Answer.{refusal-number}
 use Rattle.region.specs.declared.Refusal.{Refusal}
 use Rattle.region.proofs.AnswerLaws.{refusals-by-number, refusal-not-8, done-changed}
-use Rattle.replay.specs.AsyncSpec.{AsyncView, write, readable}
-use Rattle.verdict.specs.Search as search
-use Rattle.verdict.specs.Covering.{Rule, after-alone}
-use Rattle.verdict.specs.Gate.{gate-verdict, judges-images}
-use Rattle.verdict.proofs.Gate.{gate-judges-images}
+use Rattle.pieces.specs.AsyncSpec.{AsyncView, write, readable}
+use Rattle.cuts.specs.Search as search
+use Rattle.cuts.specs.Covering.{Test, after-alone}
+use Rattle.cuts.specs.Gate.{gate-finding, judges-images}
+use Rattle.cuts.proofs.Gate.{gate-judges-images}
 use Rattle.sheet.specs.Sheet.{obeys}
 use Rattle.sheet.proofs.Laws.{before-unseen}
 use Rattle.records.specs.State.{view, appended, log-with}
 use Rattle.records.specs.declared.state.State.{State}
-use Rattle.engine.specs.Search.{sheet-verdict, sheet-image}
+use Rattle.engine.specs.Search.{sheet-finding, sheet-image}
 use Rattle.gate.specs.declared.Verdict.{Verdict}
 use Rattle.gate.specs.declared.Verdict.the-variants.{Admitted, Denied, Refused}
 use Rattle.gate.specs.Judgement.{denied-number, verdict-report, Judgement, tried, gate-points, judgement-report, judgement-work, Judges, Gates}
@@ -43,34 +43,34 @@ verdicts-by-report (Refused why) (Denied m) e = absurd (nothing-reported (same-v
 verdicts-by-report (Refused why) (Refused reason) e = ap Refused (refusals-by-number why reason (same-number e))
 
 -- the rule of a sheet looks at the image after alone
-rule-alone : (sheet : List ℕ) → _≡_ {A = Rule} (λ before after. obeys sheet before after) (after-alone (λ x. obeys sheet x x))
+rule-alone : (sheet : List ℕ) → _≡_ {A = Test} (λ before after. obeys sheet before after) (after-alone (λ x. obeys sheet x x))
 rule-alone sheet = fun-ext (λ before. fun-ext (λ after. before-unseen sheet before after after))
 
 module _ (image : List ℕ) (st : State) (log sheet work : List ℕ) (addr : ℕ) (bytes : List ℕ) where
   abbrev v : AsyncView
   v = view image st log
 
-  abbrev verdict-on : search.Verdict
-  verdict-on = sheet-verdict sheet v addr bytes
+  abbrev finding-on : search.Finding
+  finding-on = sheet-finding sheet v addr bytes
 
-  judged : judges-images const-persistence-chunk-size (λ x. obeys sheet x x) v addr bytes verdict-on
+  judged : judges-images const-persistence-chunk-size (λ x. obeys sheet x x) v addr bytes finding-on
   judged =
-      subst (λ (rule : Rule). judges-images const-persistence-chunk-size (λ x. obeys sheet x x) v addr bytes (gate-verdict const-persistence-chunk-size rule v addr bytes)) (sym (rule-alone sheet))
+      subst (λ (rule : Test). judges-images const-persistence-chunk-size (λ x. obeys sheet x x) v addr bytes (gate-finding const-persistence-chunk-size rule v addr bytes)) (sym (rule-alone sheet))
       (gate-judges-images const-persistence-chunk-size (lit< tt) v addr bytes (λ x. obeys sheet x x))
 
   module _ {answer : Verdict} {work′ : List ℕ} (p : Judges image st log sheet work addr bytes answer work′) where
     -- what a write that fits gets, by the engine's verdict
-    answered : (r : search.Verdict) (a : Verdict) → verdict-report a ≡ judgement-report (gate-points image st log addr bytes) (tried r) → Fits image st log sheet work addr bytes → verdict-on ≡ r → answer ≡ a
+    answered : (r : search.Finding) (a : Verdict) → verdict-report a ≡ judgement-report (gate-points image st log addr bytes) (tried r) → Fits image st log sheet work addr bytes → finding-on ≡ r → answer ≡ a
     answered r a report f e = verdicts-by-report answer a (rw (fitting-tried image st log sheet work addr bytes f, e) at (p .answers) ∙ sym report)
 
-    left : (r : search.Verdict) → Fits image st log sheet work addr bytes → verdict-on ≡ r → work′ ≡ sheet-image v addr bytes r
+    left : (r : search.Finding) → Fits image st log sheet work addr bytes → finding-on ≡ r → work′ ≡ sheet-image v addr bytes r
     left r f e = rw (fitting-tried image st log sheet work addr bytes f, e) at (p .work-after)
 
-    admitted-so : Fits image st log sheet work addr bytes → verdict-on ≡ search.admit → (n : ℕ) × (answer ≡ Admitted n)
-    admitted-so f e = (gate-points image st log addr bytes, answered search.admit (Admitted (gate-points image st log addr bytes)) refl f e)
+    admitted-so : Fits image st log sheet work addr bytes → finding-on ≡ search.none-bad → (n : ℕ) × (answer ≡ Admitted n)
+    admitted-so f e = (gate-points image st log addr bytes, answered search.none-bad (Admitted (gate-points image st log addr bytes)) refl f e)
 
-    denied-so : (m : ℕ) → Fits image st log sheet work addr bytes → verdict-on ≡ search.deny m → answer ≡ Denied m
-    denied-so m f e = answered (search.deny m) (Denied m) refl f e
+    denied-so : (m : ℕ) → Fits image st log sheet work addr bytes → finding-on ≡ search.first-bad m → answer ≡ Denied m
+    denied-so m f e = answered (search.first-bad m) (Denied m) refl f e
 
     -- the theorem of the gate
     pub judge-means : Means image st log sheet work addr bytes answer work′
@@ -93,10 +93,10 @@ module _ (image : List ℕ) (st : State) (log sheet work : List ℕ) (addr : ℕ
             λ f. denied-so m (f .0) (judged .names-the-first m .1 (f .1)),
           );
           admitted-leaves = λ n a. let f = admitted-fits p a in (
-            one-value (same-values (sym (ap verdict-report a) ∙ ap verdict-report (answered search.admit (Admitted (gate-points image st log addr bytes)) refl (f .0) (f .1)))),
-            left search.admit (f .0) (f .1),
+            one-value (same-values (sym (ap verdict-report a) ∙ ap verdict-report (answered search.none-bad (Admitted (gate-points image st log addr bytes)) refl (f .0) (f .1)))),
+            left search.none-bad (f .0) (f .1),
           );
-          denied-leaves = λ m d. let f = denied-fits p d in left (search.deny m) (f .0) (f .1);
+          denied-leaves = λ m d. let f = denied-fits p d in left (search.first-bad m) (f .0) (f .1);
         }
 
   -- the gate answers as the judging call does
@@ -110,7 +110,7 @@ module _ (image : List ℕ) (st : State) (log sheet work : List ℕ) (addr : ℕ
   pub admitting : Fits image st log sheet work addr bytes → ((x : List ℕ) → could-leave v addr bytes x → obeys sheet x x ≡ true)
       → Gates image st log sheet work addr bytes (Admitted (gate-points image st log addr bytes)) (appended st addr (length bytes)) (log-with st log bytes) (readable (write v addr bytes))
   admitting f all =
-      let admits : J image st log sheet work addr bytes ≡ tried search.admit = fitting-tried image st log sheet work addr bytes f ∙ ap tried (judged .admits .1 all) in
+      let admits : J image st log sheet work addr bytes ≡ tried search.none-bad = fitting-tried image st log sheet work addr bytes f ∙ ap tried (judged .admits .1 all) in
       let report = ap (judgement-report (gate-points image st log addr bytes)) admits in
       let none = same-number report in
       record {

@@ -10,14 +10,14 @@ use lib.Dec.{leb, eqb}
 use lib.ListN.{length}
 use Rattle.region.specs.Limits.{writes-limit, points-limit, const-persistence-chunk-size}
 use Rattle.region.specs.Answer.{Report, refusal-number, unless, if-done}
-use Rattle.replay.specs.AsyncSpec.{AsyncView, write}
+use Rattle.pieces.specs.AsyncSpec.{AsyncView, write}
 use Rattle.cuts.specs.Number.{choice-points}
-use Rattle.verdict.specs.Search as search
+use Rattle.cuts.specs.Search as search
 use Rattle.sheet.specs.Sheet.{well-formed}
 use Rattle.records.specs.State.{log-records, together, view, sound, appended, log-with}
 use Rattle.writelog.specs.Write.{room-number}
 use Rattle.records.specs.declared.state.State.{State}
-use Rattle.engine.specs.Search.{sheet-verdict, sheet-image}
+use Rattle.engine.specs.Search.{sheet-finding, sheet-image}
 use Rattle.gate.specs.declared.Verdict.{Verdict}
 use Rattle.gate.specs.declared.Verdict.the-variants.{Admitted, Denied, Refused}
 
@@ -34,7 +34,7 @@ verdict-report (Refused why) = record { number = refusal-number why; values = []
 -- what becomes of a write: refused with a number before any image was judged, or all its images tried
 pub data Judgement : Type 0 where
   refused : ℕ → Judgement
-  tried : search.Verdict → Judgement
+  tried : search.Finding → Judgement
 
 -- n: the choice points with the new write in the log
 abbrev pub gate-points : List ℕ → State → List ℕ → ℕ → List ℕ → ℕ
@@ -44,7 +44,7 @@ gate-points image st log addr bytes = choice-points const-persistence-chunk-size
 abbrev pub weighed : List ℕ → State → List ℕ → List ℕ → ℕ → List ℕ → Judgement
 weighed image st log sheet addr bytes =
     unless (leb (gate-points image st log addr bytes) points-limit) (refused 7)
-    (tried (sheet-verdict sheet (view image st log) addr bytes))
+    (tried (sheet-finding sheet (view image st log) addr bytes))
 
 -- from 2 on: the tests of a plain write, and then the judging
 abbrev pub fitted : List ℕ → State → List ℕ → List ℕ → ℕ → List ℕ → Judgement
@@ -60,8 +60,8 @@ judgement image st log sheet work addr bytes =
 -- the number of a judgement, with n or m where one is reported
 abbrev pub judgement-report : (n : ℕ) → Judgement → Report
 judgement-report n (refused why) = record { number = why; values = [] }
-judgement-report n (tried search.admit) = record { number = 0; values = n ∷ [] }
-judgement-report n (tried (search.deny m)) = record { number = denied-number; values = m ∷ [] }
+judgement-report n (tried search.none-bad) = record { number = 0; values = n ∷ [] }
+judgement-report n (tried (search.first-bad m)) = record { number = denied-number; values = m ∷ [] }
 
 -- the working image that it leaves
 abbrev pub judgement-work : AsyncView → ℕ → List ℕ → Judgement → List ℕ → List ℕ

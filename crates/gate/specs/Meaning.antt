@@ -8,10 +8,10 @@ use mathlib.Core.List.{List}
 use lib.ListN.{length}
 use Rattle.region.specs.Limits.{image-limit, writes-limit, log-limit, points-limit, const-persistence-chunk-size}
 use Rattle.region.specs.Pmemspec.{can-result-from-partial-write}
-use Rattle.replay.specs.AsyncSpec.{AsyncView, write, readable, can-crash}
+use Rattle.pieces.specs.AsyncSpec.{AsyncView, write, readable, can-crash}
 use Rattle.cuts.specs.Number.{choice-image}
-use Rattle.verdict.specs.Search.{least-bad}
-use Rattle.verdict.specs.Gate.{gate-numbers}
+use Rattle.cuts.specs.Search.{least-bad}
+use Rattle.cuts.specs.Gate.{gate-numbers}
 use Rattle.sheet.specs.Sheet.{well-formed, allows}
 use Rattle.records.specs.State.{log-records, together, view, sound}
 use Rattle.records.specs.declared.state.State.{State}

@@ -9,7 +9,7 @@ use lib.ListN.{getD, replicate, set}
 use Rattle.region.specs.Limits.{const-persistence-chunk-size}
 use Rattle.region.specs.declared.Answer.the-variants.{Done, Refused}
 use Rattle.region.specs.declared.Refusal.the-variants.{BadState, BrokenImage}
-use Rattle.replay.specs.AsyncSpec.{AsyncView, flush-selective, can-crash}
+use Rattle.pieces.specs.AsyncSpec.{AsyncView, flush-selective, can-crash}
 use Rattle.cuts.proofs.Shape.{shaped-rows-crash}
 use Rattle.cuts.proofs.Tables.{rows-at-shape}
 use Rattle.records.specs.State.{appended, emptied}

@@ -7,7 +7,7 @@ use mathlib.Core.List.{List, [], _∷_}
 use lib.ListN.{length, getD, set}
 use Rattle.region.specs.Limits.{const-persistence-chunk-size}
 use Rattle.region.specs.declared.Answer.the-variants.{Done}
-use Rattle.replay.specs.AsyncSpec.{AsyncView}
+use Rattle.pieces.specs.AsyncSpec.{AsyncView}
 use Rattle.records.specs.State.{emptied}
 use Rattle.writelog.specs.Flush.{Flushes}
 use Rattle.writelog.specs.Cut.{Cuts}

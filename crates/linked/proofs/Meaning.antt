@@ -7,8 +7,8 @@ use mathlib.Core.List.{List}
 use lib.ListN.{length}
 use Rattle.region.specs.Limits.{const-persistence-chunk-size}
 use Rattle.region.specs.Answer.{answer-number}
-use Rattle.verdict.specs.Search.{least-bad}
-use Rattle.verdict.specs.Gate.{gate-numbers}
+use Rattle.cuts.specs.Search.{least-bad}
+use Rattle.cuts.specs.Gate.{gate-numbers}
 use Rattle.sheet.specs.Sheet.{allows}
 use Rattle.records.specs.State.{view}
 use Rattle.gate.specs.Judgement.{denied-number, verdict-report}

@@ -12,9 +12,9 @@ use Rattle.region.specs.declared.Answer.the-variants as answer
 use Rattle.region.specs.declared.Refusal.{Refusal}
 use Rattle.region.specs.declared.Refusal.the-variants.{BadState, OutOfRange, TooManyWrites, TooManyBytes, BadSheet, BrokenImage, TooManyPoints, BadRows, BadTape, NotPredicted, TooManyRounds}
 use Rattle.region.proofs.AnswerLaws.{not-done, refusal-not-done}
-use Rattle.replay.specs.AsyncSpec.{size-to-chunks}
-use Rattle.replay.specs.Rows.{rows-right, rows-filled}
-use Rattle.verdict.specs.Search as search
+use Rattle.pieces.specs.AsyncSpec.{size-to-chunks}
+use Rattle.pieces.specs.Rows.{rows-right, rows-filled}
+use Rattle.cuts.specs.Search as search
 use Rattle.sheet.specs.Sheet.{well-formed, obeys}
 use Rattle.records.specs.State.{log-records, together, view, sound}
 use Rattle.records.specs.declared.state.State.{State}
@@ -25,7 +25,7 @@ use Rattle.writelog.specs.Cut.{cut-report, cut-told, chunks, cut-number}
 use Rattle.writelog.specs.declared.cut.CutAnswer.{CutAnswer}
 use Rattle.writelog.specs.declared.cut.CutAnswer.the-variants as cut-answer
 use Rattle.writelog.proofs.CutLaws.{kept-told, refused-told}
-use Rattle.engine.specs.Search.{sheet-verdict}
+use Rattle.engine.specs.Search.{sheet-finding}
 use Rattle.gate.specs.Opening.{open-number}
 use Rattle.gate.specs.Judgement.{verdict-report, Judgement, refused, tried, gate-points, weighed, judgement, judgement-report, judge-report}
 use Rattle.gate.specs.declared.Verdict.{Verdict}
@@ -151,9 +151,9 @@ roomy n k rest (answer.Refused why, e) v =
     subst (λ (k : ℕ). Speaks n (if-done k rest (refused k))) e
     (subst⁻¹ (Speaks n) (not-done (refusal-number why) rest (refused (refusal-number why)) (refusal-not-done why)) (verdict.Refused why, refl))
 
-searched : (n : ℕ) (r : search.Verdict) → Speaks n (tried r)
-searched n search.admit = (verdict.Admitted n, refl)
-searched n (search.deny m) = (verdict.Denied m, refl)
+searched : (n : ℕ) (r : search.Finding) → Speaks n (tried r)
+searched n search.none-bad = (verdict.Admitted n, refl)
+searched n (search.first-bad m) = (verdict.Denied m, refl)
 
 pub judge-speaks : (image : List ℕ) (st : State) (log sheet work : List ℕ) (addr : ℕ) (bytes : List ℕ)
     → (v : Verdict) × (verdict-report v ≡ judge-report image st log sheet work addr bytes)
@@ -164,4 +164,4 @@ judge-speaks image st log sheet work addr bytes =
     (judged n (well-formed sheet) BadSheet _
     (roomy n (room-number (length image) st addr (length bytes)) (weighed image st log sheet addr bytes) (room-answers (length image) st addr (length bytes))
     (judged n (leb n points-limit) TooManyPoints _
-    (searched n (sheet-verdict sheet (view image st log) addr bytes)))))
+    (searched n (sheet-finding sheet (view image st log) addr bytes)))))

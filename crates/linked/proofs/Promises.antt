@@ -11,7 +11,7 @@ use borrow.Author.Tests.{eqb-true}
 use Rattle.region.specs.Limits.{writes-limit}
 use Rattle.region.specs.Answer.{Report, answer-number, if-done}
 use Rattle.region.specs.declared.Answer.{Answer}
-use Rattle.replay.specs.AsyncSpec.{readable}
+use Rattle.pieces.specs.AsyncSpec.{readable}
 use Rattle.records.specs.State.{view, appended, log-with, emptied}
 use Rattle.records.specs.declared.state.State.{State}
 use Rattle.records.proofs.Views.{sized-of-appended}
@@ -179,7 +179,7 @@ module _ (words : List ℕ) (sized : length words ≡ state-words) where
   pub linked-gate : {image log sheet work : List ℕ} {addr : ℕ} {bytes : List ℕ} {report number : ℕ} {words′ log′ work′ : List ℕ} {report′ : ℕ}
       → SkaldriftGate words image log sheet work addr bytes report number words′ log′ work′ report′
       → (verdict : Verdict) × (verdict-report verdict .number ≡ number) × (reported (verdict-report verdict) report ≡ report′)
-      × Gates image (state-of words) log sheet work addr bytes verdict (state-of words′) log′ work′
+      × Gates image (state-of words) log sheet work addr bytes finding (state-of words′) log′ work′
   linked-gate {image} {log} {sheet} {work} {addr} {bytes} {report} p =
       let at : State → ℕ = λ st. judge-number image st log sheet work addr bytes in
       let (verdict, number, reports, judges) = linked-judge (record { answers = p .answers; work-after = p .work-after; report-after = p .report-after }) in (

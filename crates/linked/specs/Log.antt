@@ -5,7 +5,7 @@ use mathlib.Core.Path.{_≡_}
 use mathlib.Core.List.{List}
 use lib.ListN.{length}
 use Rattle.region.specs.Answer.{if-done}
-use Rattle.replay.specs.AsyncSpec.{readable}
+use Rattle.pieces.specs.AsyncSpec.{readable}
 use Rattle.records.specs.State.{view, appended, log-with, emptied}
 use Rattle.writelog.specs.Write.{write-number}
 use Rattle.writelog.specs.Read.{read-number}

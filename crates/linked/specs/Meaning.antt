@@ -7,9 +7,9 @@ use mathlib.Core.Bool.{true, false}
 use mathlib.Core.List.{List}
 use Rattle.region.specs.Limits.{const-persistence-chunk-size}
 use Rattle.region.specs.Pmemspec.{can-result-from-partial-write}
-use Rattle.replay.specs.AsyncSpec.{write, readable, can-crash}
-use Rattle.verdict.specs.Search.{least-bad}
-use Rattle.verdict.specs.Gate.{gate-numbers}
+use Rattle.pieces.specs.AsyncSpec.{write, readable, can-crash}
+use Rattle.cuts.specs.Search.{least-bad}
+use Rattle.cuts.specs.Gate.{gate-numbers}
 use Rattle.sheet.specs.Sheet.{allows}
 use Rattle.records.specs.State.{view}
 use Rattle.gate.specs.Judgement.{denied-number, gate-points}

@@ -10,12 +10,12 @@ use lib.Seq.{length-take-le}
 use borrow.Author.Tests.{leb-true}
 use Rattle.region.specs.Limits.{const-persistence-chunk-size}
 use Rattle.region.proofs.Booleans.{both}
-use Rattle.replay.specs.AsyncSpec.{addr-to-chunk, size-to-chunks}
-use Rattle.replay.specs.Choice.{touched}
-use Rattle.replay.specs.Rows.{set-bits, row-bit, row-at, rows-at, row-bytes}
-use Rattle.replay.specs.Kept.{kept, kept-of}
-use Rattle.replay.proofs.ByteBits.{set-bits-agree, set-bits-le}
-use Rattle.replay.proofs.RowBits.{one-less, row-at-bit, rows-at-more}
+use Rattle.pieces.specs.AsyncSpec.{addr-to-chunk, size-to-chunks}
+use Rattle.pieces.specs.Choice.{touched}
+use Rattle.pieces.specs.Rows.{set-bits, row-bit, row-at, rows-at, row-bytes}
+use Rattle.pieces.specs.Kept.{kept, kept-of}
+use Rattle.pieces.proofs.ByteBits.{set-bits-agree, set-bits-le}
+use Rattle.pieces.proofs.RowBits.{one-less, row-at-bit, rows-at-more}
 use Rattle.records.specs.State.{log-records, together, records-inside, writes-of}
 use Rattle.records.specs.Log.{kept-records, KeptFrom}
 use Rattle.records.specs.declared.state.Record.{Record}

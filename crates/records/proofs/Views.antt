@@ -14,8 +14,8 @@ use borrow.Author.Tests.{le-leb}
 use Rattle.region.specs.Limits.{image-limit, writes-limit, log-limit}
 use Rattle.region.specs.Pmemspec.{update-bytes}
 use Rattle.region.proofs.Booleans.{both, both-true}
-use Rattle.replay.specs.AsyncSpec.{Write, write}
-use Rattle.replay.proofs.Laid.{update-is-lay, length-update, lay-below, update-reads-back}
+use Rattle.pieces.specs.AsyncSpec.{Write, write}
+use Rattle.pieces.proofs.Laid.{update-is-lay, length-update, lay-below, update-reads-back}
 use Rattle.records.specs.State.{log-records, together, records-inside, writes-of, view, appended, log-with, emptied}
 use Rattle.records.specs.declared.state.Record.{Record}
 use Rattle.records.specs.declared.state.State.{State}

@@ -10,9 +10,9 @@ use borrow.Author.Tests.{leb-true}
 use Rattle.region.specs.Limits.{writes-limit, const-persistence-chunk-size}
 use Rattle.region.specs.Pmemspec.{update-bytes}
 use Rattle.region.proofs.Booleans.{both}
-use Rattle.replay.specs.AsyncSpec.{Write, size-to-chunks, apply-write-selective, committed, flush-writes, flush-writes-selective}
-use Rattle.replay.specs.Rows.{row-at, rows-at, row-bytes}
-use Rattle.replay.proofs.RowBits.{rows-at-more}
+use Rattle.pieces.specs.AsyncSpec.{Write, size-to-chunks, apply-write-selective, committed, flush-writes, flush-writes-selective}
+use Rattle.pieces.specs.Rows.{row-at, rows-at, row-bytes}
+use Rattle.pieces.proofs.RowBits.{rows-at-more}
 use Rattle.records.specs.State.{log-records, together, records-inside, writes-of}
 use Rattle.records.specs.Log.{last-records, last-writes, Remaining}
 use Rattle.records.specs.declared.state.Record.{Record}

@@ -5,9 +5,9 @@ use mathlib.Core.Bool.{Bool, true, false}
 use mathlib.Core.List.{List, [], _∷_}
 use lib.ListN.{length, getD, drop}
 use Rattle.region.specs.Limits.{image-limit, writes-limit, log-limit, const-persistence-chunk-size}
-use Rattle.replay.specs.AsyncSpec.{Write, addr-to-chunk, size-to-chunks, committed, flush-writes, flush-writes-selective}
-use Rattle.replay.specs.Choice.{touched}
-use Rattle.replay.specs.Rows.{set-bits, row-bytes, rows-at}
+use Rattle.pieces.specs.AsyncSpec.{Write, addr-to-chunk, size-to-chunks, committed, flush-writes, flush-writes-selective}
+use Rattle.pieces.specs.Choice.{touched}
+use Rattle.pieces.specs.Rows.{set-bits, row-bytes, rows-at}
 use Rattle.records.specs.State.{log-records, together, writes-of, records-inside}
 use Rattle.records.specs.declared.state.Record.{Record}
 use Rattle.records.specs.declared.state.State.{State}

@@ -6,7 +6,7 @@ use lib.Dec.{leb, eqb}
 use lib.ListN.{take, drop, set}
 use Rattle.region.specs.Limits.{image-limit, writes-limit, log-limit}
 use Rattle.region.specs.Pmemspec.{update-bytes}
-use Rattle.replay.specs.AsyncSpec as async
+use Rattle.pieces.specs.AsyncSpec as async
 use Rattle.records.specs.declared.state.Record.{Record}
 use Rattle.records.specs.declared.state.State.{State}
 

@@ -2,19 +2,19 @@
 use crate::record_list::record_at;
 use crate::state::Record;
 use crate::state::State;
+use pieces::lay::lay;
+use pieces::lay::lay_selected;
+use pieces::points::touched;
+use pieces::rows::row_bytes;
+use pieces::rows::set_bits;
 use region::CHUNK_SIZE;
 use region::chunks::size_to_chunks;
-use replay::lay::lay;
-use replay::lay::lay_selected;
-use replay::points::touched;
-use replay::rows::row_bytes;
-use replay::rows::set_bits;
 ghost use mathlib.Core.Path.{_≡_};
 ghost use Prim.Native.Nat.{_+_, _*_, _≤_};
 ghost use lib.ListN.{length};
 ghost use Rattle.region.specs.Limits.{const-persistence-chunk-size};
-ghost use Rattle.replay.specs.AsyncSpec.{size-to-chunks};
-ghost use Rattle.replay.specs.Rows.{row-bytes};
+ghost use Rattle.pieces.specs.AsyncSpec.{size-to-chunks};
+ghost use Rattle.pieces.specs.Rows.{row-bytes};
 ghost use Rattle.records.specs.Log.{Remaining, replayed-whole, replayed-by-rows, KeptFrom, kept-by-table};
 
 // The last `left` writes, whose bytes begin at `at`, laid whole over `work`: `flush`.

@@ -9,7 +9,7 @@ use lib.ListN.{length}
 use Rattle.region.specs.Limits.{const-persistence-chunk-size, writes-limit, log-limit}
 use Rattle.region.specs.Answer.{if-done}
 use Rattle.region.proofs.AnswerLaws.{left}
-use Rattle.replay.specs.AsyncSpec.{can-crash}
+use Rattle.pieces.specs.AsyncSpec.{can-crash}
 use Rattle.records.specs.State.{appended, log-with, emptied}
 use Rattle.records.specs.declared.state.State.{State}
 use Rattle.records.proofs.Views.{view-of-emptied}

@@ -12,8 +12,8 @@ use Rattle.region.specs.declared.Answer.{Answer}
 use Rattle.region.specs.declared.Answer.the-variants as answer
 use Rattle.region.specs.declared.Refusal.{Refusal}
 use Rattle.region.proofs.AnswerLaws.{refusal-not-done, changed, left}
-use Rattle.replay.specs.AsyncSpec.{AsyncView, committed, readable, flush-selective, can-crash}
-use Rattle.replay.specs.Rows.{rows-at}
+use Rattle.pieces.specs.AsyncSpec.{AsyncView, committed, readable, flush-selective, can-crash}
+use Rattle.pieces.specs.Rows.{rows-at}
 use Rattle.cuts.specs.Bits as bits
 use Rattle.cuts.proofs.Always.{cut-could-leave-the-read-image, cut-could-leave-the-last-flush}
 use Rattle.cuts.proofs.Flush.{flush-leaves-the-read-image}

@@ -10,7 +10,7 @@ use Rattle.region.specs.Limits.{const-persistence-chunk-size}
 use Rattle.region.specs.declared.Answer.{Answer}
 use Rattle.region.specs.declared.Answer.the-variants as answer
 use Rattle.region.proofs.AnswerLaws.{refusal-not-done, left}
-use Rattle.replay.specs.AsyncSpec.{AsyncView, write}
+use Rattle.pieces.specs.AsyncSpec.{AsyncView, write}
 use Rattle.records.specs.State.{writes-of}
 use Rattle.records.specs.declared.state.State.{State}
 use Rattle.writelog.specs.declared.cut.CutAnswer.{CutAnswer}

@@ -11,8 +11,8 @@ use Rattle.region.specs.Limits.{const-persistence-chunk-size, writes-limit, log
 use Rattle.region.specs.Answer.{Report}
 use Rattle.region.specs.declared.Answer.{Answer}
 use Rattle.region.specs.declared.Answer.the-variants.{Done}
-use Rattle.replay.specs.AsyncSpec.{AsyncView, flush-selective, can-crash}
-use Rattle.replay.specs.Rows.{rows-right, rows-at}
+use Rattle.pieces.specs.AsyncSpec.{AsyncView, flush-selective, can-crash}
+use Rattle.pieces.specs.Rows.{rows-right, rows-at}
 use Rattle.cuts.specs.Packed.{are-bytes}
 use Rattle.cuts.proofs.Tables.{tables-cover}
 use Rattle.cuts.proofs.Always.{cut-could-leave-the-last-flush}

@@ -6,8 +6,8 @@ use mathlib.Core.List.{List, []}
 use lib.ListN.{length, replicate}
 use Rattle.region.specs.declared.Answer.{Answer}
 use Rattle.region.specs.declared.Answer.the-variants as answer
-use Rattle.replay.specs.AsyncSpec.{AsyncView, write, flush, flush-selective}
-use Rattle.replay.specs.Rows.{rows-at}
+use Rattle.pieces.specs.AsyncSpec.{AsyncView, write, flush, flush-selective}
+use Rattle.pieces.specs.Rows.{rows-at}
 use Rattle.cuts.specs.Bits.{chunks}
 use Rattle.writelog.specs.declared.cut.CutAnswer.{CutAnswer}
 use Rattle.writelog.specs.declared.cut.CutAnswer.the-variants as cut-answer

@@ -7,7 +7,7 @@ use denote.Ref.{RefT}
 use Rattle.region.specs.declared.Answer.{Answer}
 use Rattle.region.specs.declared.Answer.the-variants.{Done, Refused}
 use Rattle.region.specs.declared.Refusal.{Refusal}
-use Rattle.replay.specs.AsyncSpec.{AsyncView}
+use Rattle.pieces.specs.AsyncSpec.{AsyncView}
 use Rattle.records.specs.State.{view}
 use Rattle.writelog.specs.Write.{Writes}
 use Rattle.writelog.specs.Read.{Fills, HandsBack}

@@ -8,7 +8,7 @@ use mathlib.Core.List.{List}
 use lib.ListN.{length}
 use Rattle.region.specs.Limits.{const-persistence-chunk-size}
 use Rattle.region.specs.declared.Answer.the-variants.{Done}
-use Rattle.replay.specs.AsyncSpec.{AsyncView, write}
+use Rattle.pieces.specs.AsyncSpec.{AsyncView, write}
 use Rattle.cuts.specs.Bits.{chunks}
 use Rattle.records.specs.declared.state.State.{State}
 use Rattle.writelog.specs.declared.cut.CutAnswer.the-variants.{Kept}

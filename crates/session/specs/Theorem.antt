@@ -9,7 +9,7 @@ use lib.ListN.{length}
 use Rattle.region.specs.Limits.{const-persistence-chunk-size, log-limit}
 use Rattle.region.specs.declared.Answer.{Answer}
 use Rattle.region.specs.declared.Answer.the-variants.{Done}
-use Rattle.replay.specs.AsyncSpec.{committed, can-crash}
+use Rattle.pieces.specs.AsyncSpec.{committed, can-crash}
 use Rattle.cuts.specs.Packed.{are-bytes}
 use Rattle.sheet.specs.Sheet.{allows}
 use Rattle.records.specs.declared.state.State.{State}

@@ -12,9 +12,9 @@ use Rattle.region.specs.Limits.{writes-limit, const-persistence-chunk-size}
 use Rattle.region.specs.Answer.{if-done}
 use Rattle.region.specs.declared.Answer.{Answer}
 use Rattle.region.proofs.Booleans.{both-true}
-use Rattle.replay.specs.AsyncSpec.{flush-selective}
-use Rattle.replay.specs.Kept.{kept}
-use Rattle.replay.specs.Rows.{row-bytes, rows-at, rows-filled, rows-right}
+use Rattle.pieces.specs.AsyncSpec.{flush-selective}
+use Rattle.pieces.specs.Kept.{kept}
+use Rattle.pieces.specs.Rows.{row-bytes, rows-at, rows-filled, rows-right}
 use Rattle.records.specs.State.{view}
 use Rattle.records.specs.declared.state.State.{State}
 use Rattle.records.proofs.Soundness.{facts-sound}

@@ -9,7 +9,7 @@ use mathlib.Core.List.{List, [], _++_}
 use lib.Dec.{lit<}
 use lib.ListN.{length}
 use Rattle.region.specs.Limits.{writes-limit, const-persistence-chunk-size}
-use Rattle.replay.specs.AsyncSpec.{AsyncView, can-crash-as, can-crash}
+use Rattle.pieces.specs.AsyncSpec.{AsyncView, can-crash-as, can-crash}
 use Rattle.cuts.specs.Bits.{chunks}
 use Rattle.cuts.specs.Packed.{are-bytes}
 use Rattle.cuts.specs.Prophecy.{prophecy}

@@ -11,7 +11,7 @@ use Rattle.region.specs.Answer.{unless, refusal-number}
 use Rattle.region.specs.declared.Refusal.{Refusal}
 use Rattle.region.proofs.AnswerLaws.{passed, go-on, stop, both-none}
 use Rattle.region.proofs.Booleans.{cond-when, cond-unless, and-when, and-unless, both}
-use Rattle.replay.specs.AsyncSpec.{size-to-chunks}
+use Rattle.pieces.specs.AsyncSpec.{size-to-chunks}
 use Rattle.records.specs.State.{sound, appended}
 use Rattle.records.specs.declared.state.State.{State}
 use Rattle.records.proofs.Soundness.{Sound, sound-facts, Room}

@@ -8,7 +8,7 @@ use Rattle.region.specs.declared.Refusal.{Refusal}
 use Rattle.region.specs.declared.Answer.{Answer}
 use Rattle.region.specs.declared.Answer.the-variants.{Done, Refused}
 use Rattle.region.proofs.AnswerLaws.{done-changed, refused-left}
-use Rattle.replay.specs.AsyncSpec.{readable}
+use Rattle.pieces.specs.AsyncSpec.{readable}
 use Rattle.records.specs.State.{view, appended, log-with, emptied}
 use Rattle.records.specs.declared.state.State.{State}
 use Rattle.writelog.specs.declared.cut.CutAnswer.the-variants as cut-answer

@@ -9,7 +9,7 @@ use Rattle.region.specs.Limits.{writes-limit, const-persistence-chunk-size}
 use Rattle.region.specs.View.{can-result-from-write, flush-predicted}
 use Rattle.region.specs.declared.Answer.{Answer}
 use Rattle.region.proofs.AnswerLaws.{changed}
-use Rattle.replay.specs.AsyncSpec.{AsyncView, flush, readable, write, can-crash-as}
+use Rattle.pieces.specs.AsyncSpec.{AsyncView, flush, readable, write, can-crash-as}
 use Rattle.cuts.specs.Bits.{chunks}
 use Rattle.cuts.proofs.Flush.{flush-leaves-the-read-image}
 use Rattle.records.specs.State.{view, appended, log-with, emptied}

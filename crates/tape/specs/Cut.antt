@@ -6,7 +6,7 @@ use mathlib.Core.List.{List}
 use lib.ListN.{length}
 use Rattle.region.specs.Limits.{const-persistence-chunk-size}
 use Rattle.region.specs.Answer.{if-done}
-use Rattle.replay.specs.Kept.{kept}
+use Rattle.pieces.specs.Kept.{kept}
 use Rattle.records.specs.State.{view, emptied}
 use Rattle.writelog.specs.Cut.{cut-report, cut-told, chunks}
 use Rattle.records.specs.declared.state.State.{State}

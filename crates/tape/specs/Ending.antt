@@ -4,7 +4,7 @@ use mathlib.Core.Bool.{Bool, Bool·beq}
 use mathlib.Core.List.{List}
 use Rattle.region.specs.Limits.{const-persistence-chunk-size}
 use Rattle.region.specs.Answer.{unless}
-use Rattle.replay.specs.AsyncSpec.{size-to-chunks}
+use Rattle.pieces.specs.AsyncSpec.{size-to-chunks}
 use Rattle.records.specs.declared.state.State.{State}
 use Rattle.epochs.specs.Epoch.{flush-foretold, row-place, epoch-number}
 use Rattle.tape.specs.Write.{or-else, tape-sound}

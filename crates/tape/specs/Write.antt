@@ -8,7 +8,7 @@ use lib.ListN.{length}
 use Rattle.region.specs.Limits.{const-persistence-chunk-size}
 use Rattle.region.specs.Answer.{answer-number, unless, if-done}
 use Rattle.region.specs.declared.Answer.{Answer}
-use Rattle.replay.specs.AsyncSpec.{size-to-chunks}
+use Rattle.pieces.specs.AsyncSpec.{size-to-chunks}
 use Rattle.records.specs.State.{view, sound, appended, log-with}
 use Rattle.writelog.specs.Write.{room-number}
 use Rattle.records.specs.declared.state.State.{State}

@@ -2,14 +2,14 @@
 use epochs::epoch::epoch;
 use epochs::epoch::flush_foretold;
 use epochs::predict::predict;
+use pieces::lay::lay;
+use pieces::rows::row_bytes;
 use records::state::Outstanding;
 use records::state::State;
 use records::state::checked;
 use region::Answer;
 use region::Refusal;
 use region::chunks::size_to_chunks;
-use replay::lay::lay;
-use replay::rows::row_bytes;
 ghost use mathlib.Core.Path.{_≡_};
 ghost use lib.ListN.{length};
 ghost use Rattle.region.specs.Answer.{answer-number};

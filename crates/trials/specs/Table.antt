@@ -5,7 +5,7 @@ use mathlib.Core.List.{List, [], _∷_}
 use lib.ListN.{length, replicate}
 use Rattle.region.specs.Limits.{const-persistence-chunk-size, log-limit, writes-limit}
 use Rattle.region.specs.Pmemspec.{update-bytes, extract-bytes, size-to-chunks}
-use Rattle.replay.specs.AsyncSpec.{readable}
+use Rattle.pieces.specs.AsyncSpec.{readable}
 use Rattle.cuts.specs.Number.{choice-image, choice-points}
 use Rattle.region.specs.Answer.{Report}
 use Rattle.records.specs.State.{view, appended, emptied}

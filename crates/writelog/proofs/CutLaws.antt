@@ -8,7 +8,7 @@ use Rattle.region.specs.Answer.{unless, refusal-number}
 use Rattle.region.specs.declared.Refusal.{Refusal}
 use Rattle.region.proofs.AnswerLaws.{done-changed, refused-left}
 use Rattle.region.proofs.Booleans.{cond-when, cond-unless}
-use Rattle.replay.specs.Rows.{rows-right}
+use Rattle.pieces.specs.Rows.{rows-right}
 use Rattle.records.specs.State.{sound, emptied}
 use Rattle.records.specs.declared.state.State.{State}
 use Rattle.writelog.specs.Cut.{cut-report, cut-told, chunks, cut-number, cut-image, cut-kept, Cuts}

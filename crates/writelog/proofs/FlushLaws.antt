@@ -8,7 +8,7 @@ use Rattle.region.specs.declared.Refusal.the-variants.{BadState}
 use Rattle.region.specs.declared.Answer.the-variants.{Done, Refused}
 use Rattle.region.proofs.AnswerLaws.{done-changed, refused-left}
 use Rattle.region.proofs.Booleans.{cond-when, cond-unless}
-use Rattle.replay.specs.AsyncSpec.{readable}
+use Rattle.pieces.specs.AsyncSpec.{readable}
 use Rattle.records.specs.State.{view, sound, emptied}
 use Rattle.records.specs.declared.state.State.{State}
 use Rattle.writelog.specs.Flush.{flush-number, Flushes}

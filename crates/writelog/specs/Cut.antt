@@ -6,9 +6,9 @@ use mathlib.Core.List.{List, [], _∷_}
 use lib.ListN.{length}
 use Rattle.region.specs.Limits.{const-persistence-chunk-size}
 use Rattle.region.specs.Answer.{Report, refusal-number, unless, if-done}
-use Rattle.replay.specs.AsyncSpec.{size-to-chunks, flush-selective}
-use Rattle.replay.specs.Rows.{rows-right, rows-at}
-use Rattle.replay.specs.Kept.{kept}
+use Rattle.pieces.specs.AsyncSpec.{size-to-chunks, flush-selective}
+use Rattle.pieces.specs.Rows.{rows-right, rows-at}
+use Rattle.pieces.specs.Kept.{kept}
 use Rattle.records.specs.State.{view, sound, emptied}
 use Rattle.records.specs.declared.state.State.{State}
 use Rattle.writelog.specs.declared.cut.CutAnswer.{CutAnswer}

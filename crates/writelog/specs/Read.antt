@@ -10,7 +10,7 @@ use denote.Ref.{RefT, ptr, now}
 use Rattle.region.specs.Pmemspec.{extract-bytes}
 use Rattle.region.specs.Answer.{answer-number, unless, if-done}
 use Rattle.region.specs.declared.Answer.{Answer}
-use Rattle.replay.specs.AsyncSpec.{readable}
+use Rattle.pieces.specs.AsyncSpec.{readable}
 use Rattle.records.specs.State.{view, sound}
 use Rattle.records.specs.declared.state.State.{State}
 

@@ -1,5 +1,7 @@
 // The cut.
 use crate::flush::emptied;
+use pieces::rows::row_bytes;
+use pieces::rows::rows_filled;
 use records::log::kept;
 use records::log::replay_selected;
 use records::state::Outstanding;
@@ -7,13 +9,11 @@ use records::state::State;
 use records::state::checked;
 use region::Refusal;
 use region::chunks::size_to_chunks;
-use replay::rows::row_bytes;
-use replay::rows::rows_filled;
 ghost use mathlib.Core.Path.{_≡_};
 ghost use Prim.Native.Nat.{_≤_};
 ghost use Rattle.region.specs.Limits.{image-limit, writes-limit, const-persistence-chunk-size};
-ghost use Rattle.replay.specs.AsyncSpec.{size-to-chunks};
-ghost use Rattle.replay.specs.Rows.{rows-right};
+ghost use Rattle.pieces.specs.AsyncSpec.{size-to-chunks};
+ghost use Rattle.pieces.specs.Rows.{rows-right};
 ghost use Rattle.writelog.specs.Cut.{Cuts};
 
 // The answer of a cut: how many pieces it kept, or why it refused.

@@ -1,4 +1,5 @@
 // The read, and the number of the same question.
+use pieces::lay::lay;
 use records::log::replay_whole;
 use records::state::Outstanding;
 use records::state::State;
@@ -6,7 +7,6 @@ use records::state::checked;
 use records::state::within;
 use region::Answer;
 use region::Refusal;
-use replay::lay::lay;
 ghost use mathlib.Core.Path.{_≡_};
 ghost use lib.ListN.{length};
 ghost use Rattle.region.specs.Answer.{answer-number};

@@ -1,4 +1,5 @@
 // The plain write.
+use pieces::lay::lay;
 use records::record_list::with_record;
 use records::state::Outstanding;
 use records::state::Record;
@@ -9,7 +10,6 @@ use region::Answer;
 use region::LOG_LIMIT;
 use region::Refusal;
 use region::WRITES_LIMIT;
-use replay::lay::lay;
 ghost use mathlib.Core.Path.{_≡_};
 ghost use Prim.Native.Nat.{_+_, _≤_, _<_};
 ghost use lib.ListN.{length};

@@ -10,7 +10,7 @@ use lib.ListN.{length, drop}
 use borrow.Author.Tests.{leb-true}
 use Rattle.region.specs.Limits.{image-limit}
 use Rattle.region.proofs.Booleans.{both}
-use Rattle.replay.specs.Choice.{touched}
+use Rattle.pieces.specs.Choice.{touched}
 use Rattle.records.specs.State.{log-records, together, records-inside}
 use Rattle.records.specs.declared.state.Record.{Record}
 use Rattle.records.specs.declared.state.State.{State}

@@ -6,7 +6,7 @@ use lib.ListN.{length}
 use lib.Pow.{pow-pos}
 use borrow.Author.Tests.{not-true, not-false}
 use Rattle.region.specs.Limits.{const-persistence-chunk-size}
-use Rattle.replay.specs.AsyncSpec.{write}
+use Rattle.pieces.specs.AsyncSpec.{write}
 use Rattle.cuts.specs.Number.{choice-points}
 use Rattle.records.specs.State.{view}
 use Rattle.engine.proofs.SearchLaws.{Tried, tried-none, tried-more, found-bad, found-none, numbers-exact, ready-points}

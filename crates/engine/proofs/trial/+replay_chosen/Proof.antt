@@ -7,14 +7,14 @@ use lib.ListN.{length}
 use borrow.Fn.Kinds.{In}
 use borrow.Fn.PlainCycle.{Measures, is, falls, and}
 use Rattle.region.specs.Limits.{points-limit}
-use Rattle.replay.specs.Choice.{touched}
+use Rattle.pieces.specs.Choice.{touched}
 use Rattle.records.specs.Log.{last-records}
 use Rattle.records.proofs.Walk.{oldest, Step, step}
 use Rattle.engine.specs.Count.{record-points}
 use Rattle.engine.proofs.PointLaws.{piece-length, points-more}
 use Rattle.engine.proofs.TrialLaws.{replay-none, replay-step}
-use Rattle.replay.proofs.lay.lay_chosen.Reads as lay-chosen-reads
-use Rattle.replay.proofs.points.touched.Reads as touched-reads
+use Rattle.pieces.proofs.lay.lay_chosen.Reads as lay-chosen-reads
+use Rattle.pieces.proofs.points.touched.Reads as touched-reads
 use Rattle.engine.proofs.trial.replay_chosen.Reads as reads
 use Rattle.engine.proofs.trial.replay_chosen.Kinds as kinds
 use Rattle.engine.proofs.trial.+replay_chosen.Lts-replay_chosen as lts

@@ -3,7 +3,7 @@ use Prim.Native.Nat.{ℕ, _-_}
 use native.Mathlib.Omega.{arith}
 use mathlib.Core.Path.{ap, _∙_}
 use borrow.Author.Needs.{needs}
-use Rattle.replay.proofs.Laid.{update-whole}
+use Rattle.pieces.proofs.Laid.{update-whole}
 use Rattle.engine.proofs.PointLaws.{all-points}
 use Rattle.engine.proofs.TrialLaws.{log-remains, trial-image}
 use Rattle.engine.proofs.trial.trial.Statement.{statement}

@@ -6,8 +6,8 @@ use mathlib.Core.Bool.{true}
 use borrow.Author.Tests.{not-true, not-false}
 use borrow.Author.Needs.{needs}
 use Rattle.region.specs.Limits.{const-persistence-chunk-size}
-use Rattle.replay.specs.AsyncSpec.{size-to-chunks}
-use Rattle.replay.specs.Rows.{row-bytes, rows-filled}
+use Rattle.pieces.specs.AsyncSpec.{size-to-chunks}
+use Rattle.pieces.specs.Rows.{row-bytes, rows-filled}
 use Rattle.epochs.specs.Epoch.{epoch-there}
 use Rattle.epochs.proofs.EpochLaws.{There, there-facts, no-epoch, badly-filled, epoch-good}
 use Rattle.epochs.proofs.epoch.epoch.Statement.{statement}

@@ -6,9 +6,9 @@ use mathlib.Core.Path.{_≡_, sym, ap, subst⁻¹, _∙_}
 use lib.ListN.{length}
 use borrow.Author.Needs.{needs}
 use Rattle.region.specs.Limits.{const-persistence-chunk-size}
-use Rattle.replay.specs.AsyncSpec.{size-to-chunks}
-use Rattle.replay.specs.Rows.{row-bytes}
-use Rattle.replay.proofs.Laid.{update-whole}
+use Rattle.pieces.specs.AsyncSpec.{size-to-chunks}
+use Rattle.pieces.specs.Rows.{row-bytes}
+use Rattle.pieces.proofs.Laid.{update-whole}
 use Rattle.records.specs.Log.{Remaining}
 use Rattle.epochs.proofs.PredictLaws.{replayed-whole, replayed-selected}
 use Rattle.epochs.proofs.predict.predict.Statement.{statement}

@@ -8,11 +8,11 @@ use lib.ListN.{length}
 use borrow.Fn.Kinds.{In}
 use borrow.Fn.PlainCycle.{Measures, is, falls, and}
 use Rattle.region.specs.Limits.{const-persistence-chunk-size}
-use Rattle.replay.specs.AsyncSpec.{Write, size-to-chunks, flush-writes-selective}
-use Rattle.replay.specs.Rows.{rows-at}
-use Rattle.replay.proofs.RowBits.{one-less}
+use Rattle.pieces.specs.AsyncSpec.{Write, size-to-chunks, flush-writes-selective}
+use Rattle.pieces.specs.Rows.{rows-at}
+use Rattle.pieces.proofs.RowBits.{one-less}
 use Rattle.records.proofs.Walk.{StepBy, step-by, no-more, piece-le, selected-step}
-use Rattle.replay.proofs.lay.lay_selected.Reads as lay-selected-reads
+use Rattle.pieces.proofs.lay.lay_selected.Reads as lay-selected-reads
 use Rattle.records.proofs.record_list.record_at.Reads as record-at-reads
 use Rattle.records.proofs.log.replay_selected.Reads as own
 use Rattle.records.proofs.log.replay_selected.Kinds as kinds

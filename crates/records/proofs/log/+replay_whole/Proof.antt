@@ -8,9 +8,9 @@ use mathlib.Core.Path.{sym, ap, _∙_}
 use lib.ListN.{length}
 use borrow.Fn.Kinds.{In}
 use borrow.Fn.PlainCycle.{Measures, is, falls, and}
-use Rattle.replay.specs.AsyncSpec.{Write, committed, flush-writes}
+use Rattle.pieces.specs.AsyncSpec.{Write, committed, flush-writes}
 use Rattle.records.proofs.Walk.{StepBy, step-by, no-more, piece-le, whole-step}
-use Rattle.replay.proofs.lay.lay.Reads as lay-reads
+use Rattle.pieces.proofs.lay.lay.Reads as lay-reads
 use Rattle.records.proofs.record_list.record_at.Reads as record-at-reads
 use Rattle.records.proofs.log.replay_whole.Reads as own
 use Rattle.records.proofs.log.replay_whole.Kinds as kinds

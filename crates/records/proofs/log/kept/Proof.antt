@@ -3,8 +3,8 @@ use Prim.Native.Nat.{_+_, _-_, _/_, _≤_}
 use native.Mathlib.Omega.{arith}
 use mathlib.Core.Path.{_≡_, ap, _∙_}
 use Rattle.region.specs.Limits.{const-persistence-chunk-size}
-use Rattle.replay.specs.AsyncSpec.{size-to-chunks}
-use Rattle.replay.specs.Rows.{set-bits, row-bit, row-bytes}
+use Rattle.pieces.specs.AsyncSpec.{size-to-chunks}
+use Rattle.pieces.specs.Rows.{set-bits, row-bit, row-bytes}
 use Rattle.records.proofs.KeptLaws.{touched-inside, Counting, Turn, count-starts, turn, count-ends}
 use Rattle.records.proofs.log.kept.Statement.{statement}
 use Rattle.records.proofs.log.kept.Tie as tie

@@ -10,7 +10,7 @@ use lib.Seq.{take-all}
 use borrow.Author.Needs.{needs}
 use Rattle.region.specs.Answer.{answer-number}
 use Rattle.region.specs.Limits.{const-persistence-chunk-size}
-use Rattle.replay.specs.Rows.{rows-at}
+use Rattle.pieces.specs.Rows.{rows-at}
 use Rattle.records.specs.Log.{kept-records}
 use Rattle.records.specs.State.{log-records}
 use Rattle.records.proofs.KeptLaws.{kept-by-records}

@@ -11,8 +11,8 @@ use borrow.Author.Needs.{needs}
 use Rattle.region.specs.Limits.{const-persistence-chunk-size}
 use Rattle.region.specs.declared.Refusal.the-variants.{BadState, BadRows}
 use Rattle.region.proofs.Booleans.{both}
-use Rattle.replay.specs.Rows.{row-bytes, rows-right}
-use Rattle.replay.specs.AsyncSpec.{Write, flush-writes-selective}
+use Rattle.pieces.specs.Rows.{row-bytes, rows-right}
+use Rattle.pieces.specs.AsyncSpec.{Write, flush-writes-selective}
 use Rattle.records.specs.State.{log-records}
 use Rattle.records.proofs.KeptLaws.{kept-by-records}
 use Rattle.records.proofs.Walk.{all-remain, all-writes}

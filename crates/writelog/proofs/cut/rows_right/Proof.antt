@@ -8,8 +8,8 @@ use borrow.Author.Tests.{eq-eqb, ne-eqb}
 use borrow.Author.Needs.{needs}
 use Rattle.region.specs.Limits.{image-limit, writes-limit, const-persistence-chunk-size}
 use Rattle.region.proofs.Booleans.{and-when, and-unless}
-use Rattle.replay.specs.Rows.{row-bytes, rows-filled}
-use Rattle.replay.specs.AsyncSpec.{size-to-chunks}
+use Rattle.pieces.specs.Rows.{row-bytes, rows-filled}
+use Rattle.pieces.specs.AsyncSpec.{size-to-chunks}
 use Rattle.writelog.proofs.cut.rows_right.Statement.{statement}
 use Rattle.writelog.proofs.cut.rows_right.Tie as tie
 

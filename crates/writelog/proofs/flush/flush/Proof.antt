@@ -3,7 +3,7 @@ use mathlib.Core.Path.{ap, _∙_}
 use mathlib.Core.List.{List}
 use lib.ListN.{length}
 use borrow.Author.Needs.{needs}
-use Rattle.replay.specs.AsyncSpec.{Write, committed, flush-writes}
+use Rattle.pieces.specs.AsyncSpec.{Write, committed, flush-writes}
 use Rattle.records.proofs.Walk.{all-remain, all-writes}
 use Rattle.records.proofs.Soundness.{Told, told-bytes, told-unsound}
 use Rattle.writelog.proofs.FlushLaws.{flushes-done, flushes-refused}

@@ -9,7 +9,7 @@ use borrow.Author.Needs.{needs}
 use Rattle.region.specs.Pmemspec.{extract-bytes}
 use Rattle.region.specs.Answer.{answer-number}
 use Rattle.region.proofs.AnswerLaws.{done-changed, refused-left, changed}
-use Rattle.replay.specs.AsyncSpec.{readable}
+use Rattle.pieces.specs.AsyncSpec.{readable}
 use Rattle.records.specs.State.{view}
 use Rattle.writelog.specs.Read.{read-number}
 use Rattle.writelog.proofs.ReadLaws.{Asked, asked-done}

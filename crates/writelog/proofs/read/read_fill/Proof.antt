@@ -7,8 +7,8 @@ use lib.ListN.{length}
 use borrow.Author.Needs.{needs}
 use Rattle.region.specs.Answer.{answer-number}
 use Rattle.region.proofs.AnswerLaws.{done-changed, refused-left}
-use Rattle.replay.specs.AsyncSpec.{Write, committed, flush-writes}
-use Rattle.replay.proofs.Laid.{update-whole}
+use Rattle.pieces.specs.AsyncSpec.{Write, committed, flush-writes}
+use Rattle.pieces.proofs.Laid.{update-whole}
 use Rattle.records.specs.Log.{Remaining}
 use Rattle.records.proofs.Walk.{all-remain, all-writes}
 use Rattle.records.proofs.Soundness.{sound-facts}

@@ -1,0 +1,35 @@
+-- Document 01's choice points and choice numbers, over the chunk size C. A choice number is a row table in another dress: `rows-of C K ws m`.
+use Prim.Native.Nat.{ℕ, zero, suc, _+_, _-_, _/_, _%_, _^_}
+use mathlib.Core.Bool.{Bool, _&&_}
+use mathlib.Core.List.{List, [], _∷_}
+use lib.Dec.{leb, ltb, eqb}
+use lib.ListN.{length}
+use Rattle.region.specs.Tab.{tab}
+use Rattle.pieces.specs.AsyncSpec.{Write, addr-to-chunk}
+
+-- "A write touches no chunk if it is empty, otherwise those from addr div 8 to (addr+len-1) div 8": how many these are
+unfoldable pub touched : ℕ → ℕ → ℕ → ℕ
+touched C addr zero = 0
+touched C addr (suc n) = suc (addr-to-chunk C (addr + n) - addr-to-chunk C addr)
+
+-- the touched chunks are a run from the chunk of addr on
+abbrev pub touches : ℕ → ℕ → ℕ → ℕ → Bool
+touches C addr n c = leb (addr-to-chunk C addr) c && ltb c (addr-to-chunk C addr + touched C addr n)
+
+-- "Each touched chunk is one choice point": the number of points of a log
+unfoldable pub points : ℕ → List Write → ℕ
+points C [] = 0
+points C (w ∷ ws) = touched C (w .addr) (length (w .bytes)) + points C ws
+
+-- bit i of m, which has weight 2^i
+abbrev pub bit : ℕ → ℕ → Bool
+bit m i = eqb (m / 2 ^ i % 2) 1
+
+-- the row that m's lowest points give a write: its touched chunks, lowest first
+unfoldable pub row-of : ℕ → ℕ → Write → ℕ → List Bool
+row-of C K w m = tab (λ c. touches C (w .addr) (length (w .bytes)) c && bit m (c - addr-to-chunk C (w .addr))) K
+
+-- "Points are numbered from 0, oldest write first, lowest chunk first": the rows of choice number m, for K chunks
+unfoldable pub rows-of : ℕ → ℕ → List Write → ℕ → List (List Bool)
+rows-of C K [] m = []
+rows-of C K (w ∷ ws) m = row-of C K w m ∷ rows-of C K ws (m / 2 ^ touched C (w .addr) (length (w .bytes)))

@@ -1,0 +1,19 @@
+-- One write laid over an image by the chunks that a row keeps, where the row lies in a table or is read off a choice number: `apply_write_selective` of
+-- pmem_async_spec_t.rs.
+use Prim.Native.Nat.{ℕ}
+use mathlib.Core.List.{List}
+use lib.ListN.{length}
+use Rattle.pieces.specs.AsyncSpec.{Write, apply-write-selective, size-to-chunks}
+use Rattle.pieces.specs.Choice.{row-of}
+use Rattle.pieces.specs.Rows.{row-at}
+
+abbrev write-of : ℕ → List ℕ → Write
+write-of addr bytes = record { addr = addr; bytes = bytes }
+
+abbrev pub laid-by-row : (C : ℕ) (image : List ℕ) (addr : ℕ) (bytes table : List ℕ) (at : ℕ) → List ℕ
+laid-by-row C image addr bytes table at =
+    apply-write-selective C image (write-of addr bytes) (row-at (size-to-chunks C (length image)) table at)
+
+abbrev pub laid-by-choice : (C : ℕ) (image : List ℕ) (addr : ℕ) (bytes : List ℕ) (m : ℕ) → List ℕ
+laid-by-choice C image addr bytes m =
+    apply-write-selective C image (write-of addr bytes) (row-of C (size-to-chunks C (length image)) (write-of addr bytes) m)
