@@ -7,7 +7,7 @@ use Rattle.region.specs.declared.Answer.{Answer}
 use Rattle.example.specs.Setup.{SetsUp}
 use Rattle.example.specs.Run.{run-answer-number, Runs}
 use Rattle.example.specs.declared.RunAnswer.{RunAnswer}
-use Rattle.linked.specs.Example.{SkaldriftSetup, SkaldriftRun}
+use Rattle.boundary.specs.Example.{SkaldriftSetup, SkaldriftRun}
 use Rattle.linked.proofs.Numbers.{setup-answers, run-answers}
 
 pub linked-setup : {image : List ℕ} {addr val0 number : ℕ} {image′ : List ℕ}

@@ -1,10 +1,5 @@
--- `CallLaws`, `LogLaws`, `GateLaws` and `TapeLaws`: a function over a call that keeps its promise keeps its own. The other way round, `Numbers`: every number
--- is an answer's; `Promises`, `TapePromises` and `ExamplePromises`: what a function promises of words, the library's call promises of their state; `Runs`
--- and `TapeRuns`: a run of such functions is a run of the library's, so the session theorems hold of it; `Meaning`: what the numbers mean.
-pub mod CallLaws
-pub mod LogLaws
-pub mod GateLaws
-pub mod TapeLaws
+-- `Numbers`: every number is an answer's. `Promises`, `TapePromises` and `ExamplePromises`: what a function promises of words, the library's call promises of
+-- their state. `Runs` and `TapeRuns`: a run of such functions is a run of the library's, so the session theorems hold of it. `Meaning`: what the numbers mean.
 pub mod Numbers
 pub mod Promises
 pub mod TapePromises

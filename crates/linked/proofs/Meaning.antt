@@ -17,8 +17,8 @@ use Rattle.gate.specs.declared.Verdict.{Verdict}
 use Rattle.gate.specs.declared.Verdict.the-variants.{Admitted, Denied, Refused}
 use Rattle.gate.proofs.Gives.{opens-means}
 use Rattle.gate.proofs.Meaning.{denial-is-no-refusal, judge-means}
-use Rattle.words.specs.Words.{state-words, state-of, reported}
-use Rattle.linked.specs.Gate.{SkaldriftOpen, SkaldriftJudge, SkaldriftGate}
+use Rattle.boundary.specs.Words.{state-words, state-of, reported}
+use Rattle.boundary.specs.Gate.{SkaldriftOpen, SkaldriftJudge, SkaldriftGate}
 use Rattle.linked.specs.Meaning.{MeansByNumber}
 use Rattle.linked.proofs.Promises.{linked-open, linked-judge}
 use Rattle.linked.proofs.Runs.{done-of, admitted-of}

@@ -23,11 +23,11 @@ use Rattle.writelog.specs.declared.cut.CutAnswer.{CutAnswer}
 use Rattle.gate.specs.Opening.{fresh, open-number, Opens}
 use Rattle.gate.specs.Judgement.{verdict-report, judge-report, judge-number, judge-work, Judges, Gates}
 use Rattle.gate.specs.declared.Verdict.{Verdict}
-use Rattle.words.specs.Words.{state-words, state-of, words-of, of-state, reported}
-use Rattle.words.proofs.WordLaws.{state-back, said-length, words-length}
-use Rattle.linked.specs.Log.{skaldrift-write-number, SkaldriftWrite, SkaldriftRead, skaldrift-flush-number, SkaldriftFlush, skaldrift-cut-number, SkaldriftCut}
-use Rattle.linked.specs.Gate.{skaldrift-open-number, SkaldriftOpen, skaldrift-judge-number, SkaldriftJudge, SkaldriftGate}
-use Rattle.linked.proofs.CallLaws.{right, report-by}
+use Rattle.boundary.specs.Words.{state-words, state-of, words-of, of-state, reported}
+use Rattle.boundary.proofs.WordLaws.{state-back, said-length, words-length}
+use Rattle.boundary.specs.Log.{skaldrift-write-number, SkaldriftWrite, SkaldriftRead, skaldrift-flush-number, SkaldriftFlush, skaldrift-cut-number, SkaldriftCut}
+use Rattle.boundary.specs.Gate.{skaldrift-open-number, SkaldriftOpen, skaldrift-judge-number, SkaldriftJudge, SkaldriftGate}
+use Rattle.boundary.proofs.CallLaws.{right, report-by}
 use Rattle.linked.proofs.Numbers.{open-answers, write-answers, read-answers, flush-answers, cut-answers, cut-answered, judge-speaks}
 
 -- a function that is done was handed 65 words
@@ -179,7 +179,7 @@ module _ (words : List ℕ) (sized : length words ≡ state-words) where
   pub linked-gate : {image log sheet work : List ℕ} {addr : ℕ} {bytes : List ℕ} {report number : ℕ} {words′ log′ work′ : List ℕ} {report′ : ℕ}
       → SkaldriftGate words image log sheet work addr bytes report number words′ log′ work′ report′
       → (verdict : Verdict) × (verdict-report verdict .number ≡ number) × (reported (verdict-report verdict) report ≡ report′)
-      × Gates image (state-of words) log sheet work addr bytes finding (state-of words′) log′ work′
+      × Gates image (state-of words) log sheet work addr bytes verdict (state-of words′) log′ work′
   linked-gate {image} {log} {sheet} {work} {addr} {bytes} {report} p =
       let at : State → ℕ = λ st. judge-number image st log sheet work addr bytes in
       let (verdict, number, reports, judges) = linked-judge (record { answers = p .answers; work-after = p .work-after; report-after = p .report-after }) in (

@@ -25,9 +25,9 @@ use Rattle.session.specs.Run.{Desk, Step, Run, throughout}
 use Rattle.session.specs.Run as run
 use Rattle.session.specs.Theorem.{could-be-left, Session}
 use Rattle.session.proofs.Theorem.{power-loss-cuts, session, session-throughout}
-use Rattle.words.specs.Words.{state-words, state-of}
-use Rattle.linked.specs.Gate.{SkaldriftOpen, SkaldriftJudge}
-use Rattle.linked.proofs.LogLaws.{cut-right}
+use Rattle.boundary.specs.Words.{state-words, state-of}
+use Rattle.boundary.specs.Gate.{SkaldriftOpen, SkaldriftJudge}
+use Rattle.boundary.proofs.LogLaws.{cut-right}
 use Rattle.linked.proofs.Promises.{done-sized, sized-after-open, sized-after-write, sized-after-gate, sized-after-flush, sized-after-cut, linked-open, linked-write, linked-read, linked-flush, linked-cut, linked-judge, linked-gate}
 use Rattle.linked.proofs.TapePromises.{sized-after-tape-write, sized-after-tape-flush, sized-after-tape-cut, linked-tape-write, linked-tape-flush, linked-tape-cut}
 use Rattle.linked.specs.Calls.{Lent, lent, desk-of, if-0, Call, gate, judge, judged-write, judged-tape-write, refused-write, refused-tape-write, flush, tape-flush, cut, tape-cut, reopen, restart, read, Calls, opened, _and_}

@@ -16,9 +16,9 @@ use Rattle.epochs.specs.Foretold.{predicted-now}
 use Rattle.tape.specs.Ending.{next-start}
 use Rattle.tape.specs.Flush.{tape-flush-number, TapeFlushes}
 use Rattle.tape.specs.Cut.{tape-cut-number, tape-kept, TapeCuts}
-use Rattle.words.specs.Words.{state-words, state-of, reported}
-use Rattle.linked.specs.Tape.{skaldrift-tape-write-number, SkaldriftTapeWrite, skaldrift-tape-flush-number, SkaldriftTapeFlush, skaldrift-tape-cut-number, SkaldriftTapeCut}
-use Rattle.linked.proofs.CallLaws.{report-by}
+use Rattle.boundary.specs.Words.{state-words, state-of, reported}
+use Rattle.boundary.specs.Tape.{skaldrift-tape-write-number, SkaldriftTapeWrite, skaldrift-tape-flush-number, SkaldriftTapeFlush, skaldrift-tape-cut-number, SkaldriftTapeCut}
+use Rattle.boundary.proofs.CallLaws.{report-by}
 use Rattle.linked.proofs.Numbers.{tape-write-answers, ending-answers, cut-answered}
 use Rattle.linked.proofs.Promises.{sized-recorded, sized-emptied, number-here, by-call, state-by-call}
 

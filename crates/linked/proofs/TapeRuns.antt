@@ -10,9 +10,9 @@ use Rattle.session.specs.TapeRun.{TapeDesk, TapeStep, TapeRun, tape-throughout}
 use Rattle.session.specs.TapeRun as run
 use Rattle.session.specs.TapeTheorem.{prediction, TapeSession}
 use Rattle.session.proofs.TapeTheorem.{tape-session, tape-session-throughout}
-use Rattle.words.specs.Words.{state-words}
-use Rattle.linked.specs.Gate.{SkaldriftOpen}
-use Rattle.linked.specs.Tape.{SkaldriftTapeWrite, SkaldriftTapeFlush, SkaldriftTapeCut}
+use Rattle.boundary.specs.Words.{state-words}
+use Rattle.boundary.specs.Gate.{SkaldriftOpen}
+use Rattle.boundary.specs.Tape.{SkaldriftTapeWrite, SkaldriftTapeFlush, SkaldriftTapeCut}
 use Rattle.linked.proofs.Promises.{sized-after-open, linked-open}
 use Rattle.linked.proofs.TapePromises.{sized-after-tape-write, sized-after-tape-flush, sized-after-tape-cut, linked-tape-write, linked-tape-flush, linked-tape-cut}
 use Rattle.linked.specs.Calls.{Lent, desk-of}

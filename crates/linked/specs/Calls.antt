@@ -5,10 +5,10 @@ use mathlib.Core.List.{List}
 use Rattle.region.specs.Answer.{if-done}
 use Rattle.session.specs.History.{Event, nothing, written, flushed, cut-by, reopened, History, opening, _then_}
 use Rattle.session.specs.Run.{Desk, desk}
-use Rattle.words.specs.Words.{state-of}
-use Rattle.linked.specs.Log.{SkaldriftWrite, SkaldriftRead, SkaldriftFlush, SkaldriftCut}
-use Rattle.linked.specs.Gate.{SkaldriftOpen, SkaldriftJudge, SkaldriftGate}
-use Rattle.linked.specs.Tape.{SkaldriftTapeWrite, SkaldriftTapeFlush, SkaldriftTapeCut}
+use Rattle.boundary.specs.Words.{state-of}
+use Rattle.boundary.specs.Log.{SkaldriftWrite, SkaldriftRead, SkaldriftFlush, SkaldriftCut}
+use Rattle.boundary.specs.Gate.{SkaldriftOpen, SkaldriftJudge, SkaldriftGate}
+use Rattle.boundary.specs.Tape.{SkaldriftTapeWrite, SkaldriftTapeFlush, SkaldriftTapeCut}
 
 -- the memory that the desk lends
 pub record Lent : Type 0 where

@@ -14,7 +14,7 @@ use Rattle.sheet.specs.Sheet.{allows}
 use Rattle.records.specs.State.{view}
 use Rattle.gate.specs.Judgement.{denied-number, gate-points}
 use Rattle.gate.specs.Meaning.{Fits, could-leave, image-of}
-use Rattle.words.specs.Words.{state-of}
+use Rattle.boundary.specs.Words.{state-of}
 
 pub record MeansByNumber (words image log sheet work : List ℕ) (addr : ℕ) (bytes : List ℕ) (number : ℕ) (work′ : List ℕ) (report′ : ℕ) : Type 0 where
   pub admits : (number ≡ 0)

@@ -5,8 +5,8 @@ use mathlib.Core.List.{List}
 use lib.ListN.{getD}
 use Rattle.session.specs.History.{Event, nothing, written, flushed, cut-by, reopened, History, opening, _then_}
 use Rattle.session.specs.TapeRun.{TapeDesk, by-tape}
-use Rattle.linked.specs.Gate.{SkaldriftOpen, SkaldriftJudge}
-use Rattle.linked.specs.Tape.{SkaldriftTapeWrite, SkaldriftTapeFlush, SkaldriftTapeCut}
+use Rattle.boundary.specs.Gate.{SkaldriftOpen, SkaldriftJudge}
+use Rattle.boundary.specs.Tape.{SkaldriftTapeWrite, SkaldriftTapeFlush, SkaldriftTapeCut}
 use Rattle.linked.specs.Calls.{Lent, lent, desk-of, if-0, Call}
 
 -- the memory that the desk lends, the epoch's start, and what the buffer holds that it lends for the predicted image

@@ -3,7 +3,7 @@ use example::numbers::run_answer_number;
 use example::run::run;
 use example::setup::setup;
 use region::numbers::answer_number;
-ghost use Rattle.linked.specs.Example.{SkaldriftSetup, SkaldriftRun};
+ghost use Rattle.boundary.specs.Example.{SkaldriftSetup, SkaldriftRun};
 
 // Makes the byte at `addr` val0, and leaves every other byte.
 #[no_mangle]

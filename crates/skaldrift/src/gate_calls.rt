@@ -1,15 +1,15 @@
 // Opening, the judging call and the gate.
+use boundary::reports::verdict_number;
+use boundary::state_words::STATE_WORDS;
+use boundary::state_words::loaded;
+use boundary::state_words::stored;
 use gate::gate::gate;
 use gate::judge::judge;
 use gate::open::open;
 use region::Refusal;
 use region::numbers::answer_number;
 use region::numbers::refusal_number;
-use words::reports::verdict_number;
-use words::state_words::STATE_WORDS;
-use words::state_words::loaded;
-use words::state_words::stored;
-ghost use Rattle.linked.specs.Gate.{SkaldriftOpen, SkaldriftJudge, SkaldriftGate};
+ghost use Rattle.boundary.specs.Gate.{SkaldriftOpen, SkaldriftJudge, SkaldriftGate};
 
 // Judges the image and starts an empty log. Of the state only its length is looked at.
 #[no_mangle]

@@ -1,19 +1,19 @@
 // The log's calls: write, read, flush and cut.
+use boundary::reports::cut_number;
+use boundary::state_words::STATE_WORDS;
+use boundary::state_words::loaded;
+use boundary::state_words::state_words;
+use boundary::state_words::stored;
 use region::Refusal;
 use region::numbers::answer_number;
 use region::numbers::refusal_number;
-use words::reports::cut_number;
-use words::state_words::STATE_WORDS;
-use words::state_words::loaded;
-use words::state_words::state_words;
-use words::state_words::stored;
 use writelog::cut::cut;
 use writelog::flush::flush;
 use writelog::read::read_fill;
 use writelog::write::write;
 ghost use mathlib.Core.Path.{_≡_};
-ghost use Rattle.words.specs.Words.{state-words};
-ghost use Rattle.linked.specs.Log.{SkaldriftWrite, SkaldriftRead, SkaldriftFlush, SkaldriftCut};
+ghost use Rattle.boundary.specs.Words.{state-words};
+ghost use Rattle.boundary.specs.Log.{SkaldriftWrite, SkaldriftRead, SkaldriftFlush, SkaldriftCut};
 
 // The words of a state: the length that every other function asks of `state`.
 #[no_mangle]

@@ -1,15 +1,15 @@
 // The calls by tape.
+use boundary::reports::cut_number;
+use boundary::state_words::STATE_WORDS;
+use boundary::state_words::loaded;
+use boundary::state_words::stored;
 use region::Refusal;
 use region::numbers::answer_number;
 use region::numbers::refusal_number;
 use tape::tape_cut::tape_cut;
 use tape::tape_flush::tape_flush;
 use tape::tape_write::tape_write;
-use words::reports::cut_number;
-use words::state_words::STATE_WORDS;
-use words::state_words::loaded;
-use words::state_words::stored;
-ghost use Rattle.linked.specs.Tape.{SkaldriftTapeWrite, SkaldriftTapeFlush, SkaldriftTapeCut};
+ghost use Rattle.boundary.specs.Tape.{SkaldriftTapeWrite, SkaldriftTapeFlush, SkaldriftTapeCut};
 
 // Records a write of `data` at `addr`, judged by nobody, and predicts the image with it.
 #[no_mangle]

@@ -1,7 +1,7 @@
 -- `skaldrift_gate` meets its contract: words of another number are refused before anything is touched, and the others are a state, at which the gate keeps its promise.
 -- Assumes nothing.
 use borrow.Author.Needs.{needs}
-use Rattle.linked.proofs.GateLaws.{gate-wrong, gate-right}
+use Rattle.boundary.proofs.GateLaws.{gate-wrong, gate-right}
 use Rattle.skaldrift.proofs.gate_calls.skaldrift_gate.Statement.{statement}
 use Rattle.skaldrift.proofs.gate_calls.skaldrift_gate.Tie as tie
 

@@ -1,7 +1,7 @@
 -- `skaldrift_judge` meets its contract: words of another number are refused before anything is touched, and the others are a state, at which the judging call keeps its promise.
 -- Assumes nothing.
 use borrow.Author.Needs.{needs}
-use Rattle.linked.proofs.GateLaws.{judge-wrong, judge-right}
+use Rattle.boundary.proofs.GateLaws.{judge-wrong, judge-right}
 use Rattle.skaldrift.proofs.gate_calls.skaldrift_judge.Statement.{statement}
 use Rattle.skaldrift.proofs.gate_calls.skaldrift_judge.Tie as tie
 

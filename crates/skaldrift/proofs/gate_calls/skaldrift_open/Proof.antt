@@ -1,7 +1,7 @@
 -- `skaldrift_open` meets its contract: words of another number are refused before anything is touched, and the others are a state, at which opening keeps its promise.
 -- Assumes nothing.
 use borrow.Author.Needs.{needs}
-use Rattle.linked.proofs.GateLaws.{open-wrong, open-right}
+use Rattle.boundary.proofs.GateLaws.{open-wrong, open-right}
 use Rattle.skaldrift.proofs.gate_calls.skaldrift_open.Statement.{statement}
 use Rattle.skaldrift.proofs.gate_calls.skaldrift_open.Tie as tie
 

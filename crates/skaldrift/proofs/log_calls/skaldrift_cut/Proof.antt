@@ -1,7 +1,7 @@
 -- `skaldrift_cut` meets its contract: words of another number are refused before anything is touched, and the others are a state, at which the cut keeps its promise.
 -- Assumes nothing.
 use borrow.Author.Needs.{needs}
-use Rattle.linked.proofs.LogLaws.{cut-wrong, cut-right}
+use Rattle.boundary.proofs.LogLaws.{cut-wrong, cut-right}
 use Rattle.skaldrift.proofs.log_calls.skaldrift_cut.Statement.{statement}
 use Rattle.skaldrift.proofs.log_calls.skaldrift_cut.Tie as tie
 

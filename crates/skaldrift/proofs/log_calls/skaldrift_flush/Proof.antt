@@ -1,7 +1,7 @@
 -- `skaldrift_flush` meets its contract: words of another number are refused before anything is touched, and the others are a state, at which the flush keeps its promise.
 -- Assumes nothing.
 use borrow.Author.Needs.{needs}
-use Rattle.linked.proofs.LogLaws.{flush-wrong, flush-right}
+use Rattle.boundary.proofs.LogLaws.{flush-wrong, flush-right}
 use Rattle.skaldrift.proofs.log_calls.skaldrift_flush.Statement.{statement}
 use Rattle.skaldrift.proofs.log_calls.skaldrift_flush.Tie as tie
 

@@ -1,7 +1,7 @@
 -- `skaldrift_read` meets its contract: words of another number are refused before anything is touched, and the others are a state, at which the fill of the read keeps its promise.
 -- Assumes nothing.
 use borrow.Author.Needs.{needs}
-use Rattle.linked.proofs.LogLaws.{read-wrong, read-right}
+use Rattle.boundary.proofs.LogLaws.{read-wrong, read-right}
 use Rattle.skaldrift.proofs.log_calls.skaldrift_read.Statement.{statement}
 use Rattle.skaldrift.proofs.log_calls.skaldrift_read.Tie as tie
 

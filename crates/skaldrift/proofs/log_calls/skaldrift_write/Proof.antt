@@ -1,7 +1,7 @@
 -- `skaldrift_write` meets its contract: words of another number are refused before anything is touched, and the others are a state, at which the write keeps its promise.
 -- Assumes nothing.
 use borrow.Author.Needs.{needs}
-use Rattle.linked.proofs.LogLaws.{write-wrong, write-right}
+use Rattle.boundary.proofs.LogLaws.{write-wrong, write-right}
 use Rattle.skaldrift.proofs.log_calls.skaldrift_write.Statement.{statement}
 use Rattle.skaldrift.proofs.log_calls.skaldrift_write.Tie as tie
 

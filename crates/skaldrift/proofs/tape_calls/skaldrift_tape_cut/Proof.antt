@@ -1,7 +1,7 @@
 -- `skaldrift_tape_cut` meets its contract: words of another number are refused before anything is touched, and the others are a state, at which the cut by tape keeps its promise.
 -- Assumes nothing.
 use borrow.Author.Needs.{needs}
-use Rattle.linked.proofs.TapeLaws.{tape-cut-wrong, tape-cut-right}
+use Rattle.boundary.proofs.TapeLaws.{tape-cut-wrong, tape-cut-right}
 use Rattle.skaldrift.proofs.tape_calls.skaldrift_tape_cut.Statement.{statement}
 use Rattle.skaldrift.proofs.tape_calls.skaldrift_tape_cut.Tie as tie
 

@@ -1,7 +1,7 @@
 -- `skaldrift_tape_flush` meets its contract: words of another number are refused before anything is touched, and the others are a state, at which the flush by tape keeps its promise.
 -- Assumes nothing.
 use borrow.Author.Needs.{needs}
-use Rattle.linked.proofs.TapeLaws.{tape-flush-wrong, tape-flush-right}
+use Rattle.boundary.proofs.TapeLaws.{tape-flush-wrong, tape-flush-right}
 use Rattle.skaldrift.proofs.tape_calls.skaldrift_tape_flush.Statement.{statement}
 use Rattle.skaldrift.proofs.tape_calls.skaldrift_tape_flush.Tie as tie
 

@@ -1,7 +1,7 @@
 -- `skaldrift_tape_write` meets its contract: words of another number are refused before anything is touched, and the others are a state, at which the write by tape keeps its promise.
 -- Assumes nothing.
 use borrow.Author.Needs.{needs}
-use Rattle.linked.proofs.TapeLaws.{tape-write-wrong, tape-write-right}
+use Rattle.boundary.proofs.TapeLaws.{tape-write-wrong, tape-write-right}
 use Rattle.skaldrift.proofs.tape_calls.skaldrift_tape_write.Statement.{statement}
 use Rattle.skaldrift.proofs.tape_calls.skaldrift_tape_write.Tie as tie
 

@@ -1,0 +1,24 @@
+-- What the worked histories compute with. To unfold `everything` is to unfold all that its line names.
+use Rattle.region.specs.Tab.{tab, tab-from}
+use Rattle.region.specs.Pmemspec.{update-bytes}
+use Rattle.pieces.specs.AsyncSpec.{apply-write-selective, flush-writes, flush-writes-selective}
+use Rattle.pieces.specs.Choice.{touched, points, row-of, rows-of}
+use Rattle.pieces.specs.Rows.{row-at, rows-at, set-bits, row-filled, rows-filled}
+use Rattle.pieces.specs.Kept.{kept, kept-of}
+use Rattle.cuts.specs.Search.{finding, finding-from}
+use Rattle.sheet.specs.Sheet.{clause-holds, empty-holds, join, holds, field, read-field, read-tagged, read-entry, read-members, read-rest, read-rule, read-edition, filling, read-filling, read-whole, read-sheet, well-formed, obeys}
+use Rattle.records.specs.State.{together, writes-of, records-inside, sound}
+use Rattle.writelog.specs.Write.{write-number}
+use Rattle.writelog.specs.Flush.{flush-number}
+use Rattle.writelog.specs.Cut.{cut-number}
+use Rattle.gate.specs.Opening.{open-number}
+use Rattle.gate.specs.Judgement.{judgement}
+use Rattle.epochs.specs.Epoch.{epoch-number}
+use Rattle.tape.specs.Write.{tape-room-number, tape-write-number}
+use Rattle.tape.specs.Ending.{ending-number}
+use Rattle.session.specs.History.{happen, replay}
+use Rattle.session.specs.TapeTheorem.{tell, replay-by-tape, filled}
+
+unfoldable pub everything : Type 0
+unfolding tab tab-from update-bytes apply-write-selective flush-writes flush-writes-selective touched points row-of rows-of row-at rows-at set-bits row-filled rows-filled kept kept-of finding finding-from clause-holds empty-holds join holds field read-field read-tagged read-entry read-members read-rest read-rule read-edition filling read-filling read-whole read-sheet well-formed obeys together writes-of records-inside sound write-number flush-number cut-number open-number judgement epoch-number tape-room-number tape-write-number ending-number happen replay tell replay-by-tape filled
+everything = record {}

@@ -1,1 +1,0 @@
--- The histories are stated with the definitions of `session` and of the calls alone.

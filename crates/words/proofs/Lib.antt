@@ -1,2 +1,0 @@
--- The laws of the state as words.
-pub mod WordLaws

@@ -1,4 +1,0 @@
-// What crosses to a program in another language: the state as 65 words of 64 bits, and an answer as
-// document 01's number with what it reports. Nothing is assumed.
-pub mod reports;
-pub mod state_words;
