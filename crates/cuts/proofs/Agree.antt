@@ -1,4 +1,4 @@
--- Rows that agree in the chunks that the writes touch leave the same image: only those bits choose anything. Assumes nothing.
+-- Rows that agree in the view-chunks that the writes touch leave the same image: only those bits choose anything. Assumes nothing.
 use Prim.Native.Nat.{ℕ, _/_, _<_}
 use mathlib.Core.Path.{_≡_, refl, sym, _∙_}
 use mathlib.Core.Bool.{Bool}
@@ -7,7 +7,7 @@ use lib.ListN.{length}
 use lib.Seq.{ext-getD}
 use Rattle.region.specs.Pmemspec.{chunk-corresponds}
 use Rattle.pieces.specs.AsyncSpec.{Write, AsyncView, flush-writes-selective, flush-selective, size-to-chunks}
-use Rattle.cuts.specs.Bits.{write-at, row-bit-at, agree-on-touched, chunks}
+use Rattle.cuts.specs.Bits.{write-at, row-bit-at, agree-on-touched, view-chunks}
 use Rattle.cuts.proofs.Lengths.{length-flush-writes-selective}
 use Rattle.cuts.proofs.Basics.{chunk-below, covered-is-touched}
 use Rattle.cuts.proofs.Column.{column-alone}
@@ -34,8 +34,8 @@ module _ (C : ℕ) (C⁺ : 0 < C) where
       refl
       (λ j k. a j (i / C) (chunk-below C C⁺ i (length s) (rw long at h)) (covered-is-touched C C⁺ (write-at ws j) i k)))
 
-  -- "Bits of untouched chunks change nothing."
-  pub untouched-bits-change-nothing : (v : AsyncView) (rows rows′ : List (List Bool)) → agree-on-touched C (chunks C v) (v .outstanding-writes) rows rows′
+  -- "Bits of untouched view-chunks change nothing."
+  pub untouched-bits-change-nothing : (v : AsyncView) (rows rows′ : List (List Bool)) → agree-on-touched C (view-chunks C v) (v .outstanding-writes) rows rows′
       → flush-selective C v rows ≡ flush-selective C v rows′
   untouched-bits-change-nothing v rows rows′ a = same-touched-bits-same-replay (v .state-at-last-flush) (v .outstanding-writes) rows rows′ a
 

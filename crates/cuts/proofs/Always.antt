@@ -5,7 +5,7 @@ use native.Mathlib.Nat.{not-suc-le-zero}
 use mathlib.Core.Path.{_≡_, refl}
 use mathlib.Core.Logic.{_↔_}
 use mathlib.Core.List.{List, []}
-use Rattle.pieces.specs.AsyncSpec.{AsyncView, flush, flush-writes-selective, committed, readable, write, can-crash}
+use Rattle.pieces.specs.AsyncSpec.{Write, AsyncView, flush, flush-writes-selective, committed, readable, write, can-crash}
 use Rattle.cuts.specs.Number.{choice-points}
 use Rattle.cuts.proofs.Flush.{flush-leaves-the-read-image}
 use Rattle.cuts.proofs.PartWrites.{no-write-is-part-write, part-writes}
@@ -28,5 +28,5 @@ module _ (C : ℕ) (C⁺ : 0 < C) (v : AsyncView) where
   pub cut-could-leave-the-last-flush : can-crash C v (committed v)
   cut-could-leave-the-last-flush = rw (number-zero-leaves-the-last-flush C C⁺ v) at (number-crashes C C⁺ v 0)
 
-  pub cut-could-lose-the-write : (addr : ℕ) (bytes x : List ℕ) → can-crash C v x → can-crash C (write v addr bytes) x
-  cut-could-lose-the-write addr bytes x h = part-writes C C⁺ v addr bytes x .1 (x, h, no-write-is-part-write C x addr bytes)
+  pub cut-could-lose-the-write : (w : Write) (x : List ℕ) → can-crash C v x → can-crash C (write v w) x
+  cut-could-lose-the-write w x h = part-writes C C⁺ v w x .1 (x, h, no-write-is-part-write C x w)

@@ -9,9 +9,9 @@ use mathlib.Core.List.{List, [], _∷_, _++_}
 use lib.ListN.{length, getD, take}
 use lib.Pow.{shr-shr}
 use Rattle.region.proofs.Tab.{length-tab, getD-tab, inside-below, inside-above}
-use Rattle.pieces.specs.AsyncSpec.{Write, addr-to-chunk}
-use Rattle.pieces.specs.Choice.{touched, points, bit, row-of, rows-of}
-use Rattle.cuts.specs.Bits.{no-write, write-at, row-bit-at, touches-chunk}
+use Rattle.pieces.specs.AsyncSpec.{Write, no-write, addr-to-chunk}
+use Rattle.pieces.specs.Choice.{touched, points, keeps-point, row-of, rows-of}
+use Rattle.cuts.specs.Bits.{write-at, row-bit-at, touches-chunk}
 use Rattle.cuts.specs.Shape.{has-shape}
 use Rattle.cuts.proofs.Digits.{bit-of-shift}
 
@@ -40,7 +40,7 @@ module _ (C K : ℕ) where
   -- bit c of row j: the chunk is touched, and its point is kept. The points before it are those of the writes before and of the chunks below.
   pub bit-of-choice : (ws : List Write) (m j c : ℕ) → c < K
       → row-bit-at (rows-of C K ws m) j c
-      ≡ (touches-chunk C (write-at ws j) c && bit m (points C (take j ws) + (c - addr-to-chunk C ((write-at ws j) .addr))))
+      ≡ (touches-chunk C (write-at ws j) c && keeps-point m (points C (take j ws) + (c - addr-to-chunk C ((write-at ws j) .addr))))
   unfolding rows-of row-of points
   bit-of-choice [] m j c h = rw (nothing-touched C c)
   bit-of-choice (w ∷ ws) m zero c h = getD-tab _ K c false h ∙ rw zero-add
@@ -49,7 +49,7 @@ module _ (C K : ℕ) where
       let at = points C (take j ws) in
       let d = c - addr-to-chunk C ((write-at ws j) .addr) in
       bit-of-choice ws (m / 2 ^ t) j c h
-      ∙ ap (λ b. touches-chunk C (write-at ws j) c && b) (bit-of-shift m t (at + d) ∙ ap (bit m) (sym (add-assoc t at d)))
+      ∙ ap (λ b. touches-chunk C (write-at ws j) c && b) (bit-of-shift m t (at + d) ∙ ap (keeps-point m) (sym (add-assoc t at d)))
 
   pub rows-of-shape : (ws : List Write) (m : ℕ) → has-shape K (length ws) (rows-of C K ws m)
   unfolding rows-of row-of

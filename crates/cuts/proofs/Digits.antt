@@ -8,17 +8,17 @@ use mathlib.Core.Bool.{Bool, true, false, cond}
 use lib.Dec.{eqb, lit<}
 use lib.Arith.{digits-div, digits-mod}
 use lib.Pow.{pow-pos, shr-shr}
-use Rattle.pieces.specs.Choice.{bit}
+use Rattle.pieces.specs.Choice.{keeps-point}
 use Rattle.cuts.specs.Number.{bits-below}
 
-pub bit-of-shift : (m t k : ℕ) → bit (m / 2 ^ t) k ≡ bit m (t + k)
+pub bit-of-shift : (m t k : ℕ) → keeps-point (m / 2 ^ t) k ≡ keeps-point m (t + k)
 bit-of-shift m t k = ap (λ x. eqb (x % 2) 1) (shr-shr m t k)
 
 -- one place further is a place further in the half
 pub shr-suc : (m n : ℕ) → m / 2 ^ suc n ≡ m / 2 / 2 ^ n
 shr-suc m n = ap (λ x. m / 2 ^ x) (sym (one-add n)) ∙ sym (shr-shr m 1 n)
 
-pub bit-suc : (m k : ℕ) → bit m (suc k) ≡ bit (m / 2) k
+pub bit-suc : (m k : ℕ) → keeps-point m (suc k) ≡ keeps-point (m / 2) k
 bit-suc m k = ap (λ x. eqb (x % 2) 1) (shr-suc m k)
 
 digit-lt : (b : Bool) → cond b 1 0 < 2
@@ -30,14 +30,14 @@ digit-bit true = refl
 digit-bit false = refl
 
 -- the lowest bit, and those above
-lowest : (hi : ℕ) (b : Bool) → bit (hi * 2 + cond b 1 0) 0 ≡ b
+lowest : (hi : ℕ) (b : Bool) → keeps-point (hi * 2 + cond b 1 0) 0 ≡ b
 lowest hi b = ap (λ x. eqb (x % 2) 1) (div-one (hi * 2 + cond b 1 0)) ∙ ap (λ x. eqb x 1) (digits-mod hi (digit-lt b)) ∙ digit-bit b
 
-above : (hi : ℕ) (b : Bool) (k : ℕ) → bit (hi * 2 + cond b 1 0) (suc k) ≡ bit hi k
-above hi b k = bit-suc (hi * 2 + cond b 1 0) k ∙ ap (λ x. bit x k) (digits-div hi (digit-lt b))
+above : (hi : ℕ) (b : Bool) (k : ℕ) → keeps-point (hi * 2 + cond b 1 0) (suc k) ≡ keeps-point hi k
+above hi b k = bit-suc (hi * 2 + cond b 1 0) k ∙ ap (λ x. keeps-point x k) (digits-div hi (digit-lt b))
 
 module _ (hi : ℕ) (f : ℕ → Bool) where
-  pub bit-of-bits-below : (from n k : ℕ) → k < n → bit (bits-below hi f from n) k ≡ f (from + k)
+  pub bit-of-bits-below : (from n k : ℕ) → k < n → keeps-point (bits-below hi f from n) k ≡ f (from + k)
   unfolding bits-below
   bit-of-bits-below from zero k h = absurd (not-suc-le-zero h)
   bit-of-bits-below from (suc n) zero h = lowest (bits-below hi f (suc from) n) (f from) ∙ ap f (sym (add-zero from))
@@ -66,5 +66,5 @@ unfolding bits-below
 ones-are-bits from zero = refl
 ones-are-bits from (suc n) = rw (ones-are-bits (suc from) n) (omega (arith, pow-pos n))
 
-pub bit-of-ones : (n k : ℕ) → k < n → bit (2 ^ n - 1) k ≡ true
+pub bit-of-ones : (n k : ℕ) → k < n → keeps-point (2 ^ n - 1) k ≡ true
 bit-of-ones n k h = rw (ones-are-bits 0 n) at (bit-of-bits-below 0 (λ c. true) 0 n k h)

@@ -6,7 +6,7 @@ use mathlib.Core.List.{List, [], _∷_}
 use lib.ListN.{length, getD, drop}
 use lib.Seq.{ext-getD}
 use Rattle.pieces.specs.AsyncSpec.{Write, AsyncView, apply-write, apply-write-selective, flush-writes, flush-writes-selective, flush, flush-selective, readable}
-use Rattle.cuts.specs.Bits.{write-at, row-bit-at, covers, keeps-all, chunks}
+use Rattle.cuts.specs.Bits.{write-at, row-bit-at, covers, keeps-all, view-chunks}
 use Rattle.cuts.proofs.Lengths.{length-apply-write, length-apply-write-selective}
 use Rattle.cuts.proofs.Basics.{getD-tail, chunk-below, covered-is-touched}
 use Rattle.cuts.proofs.Column.{byte-of-write, byte-of-selective}
@@ -25,7 +25,7 @@ all-chosen false a x y h = refl
 all-chosen true a x y h = rw (h refl)
 
 module _ (C : ℕ) (C⁺ : 0 < C) where
-  -- a write all of whose bytes are in kept chunks is the whole write
+  -- a write all of whose bytes are in kept view-chunks is the whole write
   pub kept-write-is-the-write : (s : List ℕ) (w : Write) (row : List Bool) → ((i : ℕ) → i < length s → covers w i ≡ true → getD row (i / C) false ≡ true)
       → apply-write-selective C s w row ≡ apply-write s w
   kept-write-is-the-write s w row b =
@@ -47,7 +47,7 @@ module _ (C : ℕ) (C⁺ : 0 < C) where
       ap (λ x. flush-writes-selective C x ws (drop 1 rows)) (kept-write-is-the-write s w (getD rows 0 []) (b 0))
       ∙ kept-writes-are-the-flush (apply-write s w) ws (drop 1 rows) (λ j i h k. rw getD-tail (b (suc j) i (rw length-apply-write at h) k))
 
-  pub flush-is-the-cut-that-keeps-everything : (v : AsyncView) (rows : List (List Bool)) → keeps-all C (chunks C v) (v .outstanding-writes) rows
+  pub flush-is-the-cut-that-keeps-everything : (v : AsyncView) (rows : List (List Bool)) → keeps-all C (view-chunks C v) (v .outstanding-writes) rows
       → flush-selective C v rows ≡ readable v
   flush-is-the-cut-that-keeps-everything v rows k =
       kept-writes-are-the-flush

@@ -12,7 +12,7 @@ use lib.ListN.{length, getD, drop, take}
 use Rattle.region.proofs.Tab.{getD-tab}
 use Rattle.pieces.specs.AsyncSpec.{Write, AsyncView, addr-to-chunk, flush-selective, committed, readable, can-crash}
 use Rattle.pieces.specs.Choice.{touched, points, row-of, rows-of}
-use Rattle.cuts.specs.Bits.{write-at, touches-chunk, agree-on-touched, chunks}
+use Rattle.cuts.specs.Bits.{write-at, touches-chunk, agree-on-touched, view-chunks}
 use Rattle.cuts.specs.Number.{number-of, choice-image, choice-points}
 use Rattle.cuts.proofs.Basics.{inside-bounds, getD-tail}
 use Rattle.cuts.proofs.Digits.{bit-of-bits-below, bits-below-high, bits-below-lt, bit-of-ones}
@@ -63,13 +63,13 @@ module _ (C : ℕ) where
 module _ (C : ℕ) (C⁺ : 0 < C) (v : AsyncView) where
   pub number-leaves-the-image-of-its-rows : (rows : List (List Bool)) → choice-image C v (number-of C (v .outstanding-writes) rows) ≡ flush-selective C v rows
   number-leaves-the-image-of-its-rows rows =
-      untouched-bits-change-nothing C C⁺ v _ rows (number-of-agrees C (chunks C v) (v .outstanding-writes) rows)
+      untouched-bits-change-nothing C C⁺ v _ rows (number-of-agrees C (view-chunks C v) (v .outstanding-writes) rows)
 
   -- every number leaves an image that a cut could leave, and every such image has a number below 2 ^ n
   pub number-crashes : (m : ℕ) → can-crash C v (choice-image C v m)
   number-crashes m =
-      let rows = rows-of C (chunks C v) (v .outstanding-writes) m in
-      (rows, shaped-rows-crash C v rows (rows-of-shape C (chunks C v) (v .outstanding-writes) m))
+      let rows = rows-of C (view-chunks C v) (v .outstanding-writes) m in
+      (rows, shaped-rows-crash C v rows (rows-of-shape C (view-chunks C v) (v .outstanding-writes) m))
 
   pub numbers-cover : (x : List ℕ) → can-crash C v x ↔ ((m : ℕ) × (m < 2 ^ choice-points C v) × (x ≡ choice-image C v m))
   numbers-cover x = (to, from)
@@ -92,7 +92,7 @@ module _ (C : ℕ) (C⁺ : 0 < C) (v : AsyncView) where
       C⁺
       v
       _
-      (λ j c h k. bit-of-choice C (chunks C v) (v .outstanding-writes) (2 ^ choice-points C v - 1) j c h
+      (λ j c h k. bit-of-choice C (view-chunks C v) (v .outstanding-writes) (2 ^ choice-points C v - 1) j c h
       ∙ rw k (bit-of-ones (choice-points C v) _ (point-below C (v .outstanding-writes) j c k)))
 
   pub number-zero-leaves-the-last-flush : choice-image C v 0 ≡ committed v
@@ -102,4 +102,4 @@ module _ (C : ℕ) (C⁺ : 0 < C) (v : AsyncView) where
       C⁺
       v
       _
-      (λ j c h k. bit-of-choice C (chunks C v) (v .outstanding-writes) 0 j c h ∙ rw (k, zero-div))
+      (λ j c h k. bit-of-choice C (view-chunks C v) (v .outstanding-writes) 0 j c h ∙ rw (k, zero-div))

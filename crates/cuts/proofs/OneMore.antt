@@ -8,7 +8,6 @@ use mathlib.Core.List.{List, [], _∷_, _++_}
 use lib.ListN.{length}
 use Rattle.region.specs.Pmemspec.{update-bytes}
 use Rattle.pieces.specs.AsyncSpec.{Write, AsyncView, apply-write, apply-write-selective, flush-writes, flush-writes-selective, flush-selective, readable, write}
-use Rattle.cuts.specs.Bits.{new-write}
 
 -- a replay of two logs, one after the other, with the rows of each
 pub replay-in-two : (C : ℕ) (s : List ℕ) (ws ws′ : List Write) (rows rows′ : List (List Bool)) → length rows ≡ length ws
@@ -24,15 +23,15 @@ unfolding flush-writes
 read-in-two s [] ws′ = refl
 read-in-two s (w ∷ ws) ws′ = read-in-two (apply-write s w) ws ws′
 
-pub cut-of-a-write : (C : ℕ) (v : AsyncView) (addr : ℕ) (bytes : List ℕ) (rows : List (List Bool)) (row : List Bool)
+pub cut-of-a-write : (C : ℕ) (v : AsyncView) (w : Write) (rows : List (List Bool)) (row : List Bool)
     → length rows ≡ length (v .outstanding-writes)
-    → flush-selective C (write v addr bytes) (rows ++ (row ∷ []))
-    ≡ apply-write-selective C (flush-selective C v rows) (new-write addr bytes) row
+    → flush-selective C (write v w) (rows ++ (row ∷ []))
+    ≡ apply-write-selective C (flush-selective C v rows) (w) row
 unfolding flush-writes-selective
-cut-of-a-write C v addr bytes rows row l =
-    replay-in-two C (v .state-at-last-flush) (v .outstanding-writes) (new-write addr bytes ∷ []) rows (row ∷ []) l
+cut-of-a-write C v w rows row l =
+    replay-in-two C (v .state-at-last-flush) (v .outstanding-writes) (w ∷ []) rows (row ∷ []) l
 
-pub read-of-a-write : (v : AsyncView) (addr : ℕ) (bytes : List ℕ) → readable (write v addr bytes) ≡ update-bytes (readable v) addr bytes
+pub read-of-a-write : (v : AsyncView) (w : Write) → readable (write v w) ≡ apply-write (readable v) w
 unfolding flush-writes
-read-of-a-write v addr bytes =
-    ap (λ x. x .state-at-last-flush) (read-in-two (v .state-at-last-flush) (v .outstanding-writes) (new-write addr bytes ∷ []))
+read-of-a-write v w =
+    ap (λ x. x .state-at-last-flush) (read-in-two (v .state-at-last-flush) (v .outstanding-writes) (w ∷ []))

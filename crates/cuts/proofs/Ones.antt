@@ -11,11 +11,11 @@ use lib.Arith.{lt-one}
 use lib.Pow.{shr-lt}
 use lib.Count.{ones, ones-cat}
 use Rattle.region.proofs.Tab.{getD-tab, inside-in}
-use Rattle.pieces.specs.AsyncSpec.{Write, AsyncView, valid, addr-to-chunk}
-use Rattle.pieces.specs.Choice.{touched, points, bit, row-of, rows-of}
+use Rattle.pieces.specs.AsyncSpec.{Write, AsyncView, writes-valid, addr-to-chunk}
+use Rattle.pieces.specs.Choice.{touched, points, keeps-point, row-of, rows-of}
 use Rattle.pieces.specs.Rows.{set-bits}
 use Rattle.pieces.specs.Kept.{kept, kept-of}
-use Rattle.cuts.specs.Bits.{write-at, touches-chunk, chunks}
+use Rattle.cuts.specs.Bits.{write-at, touches-chunk, view-chunks}
 use Rattle.cuts.specs.Number.{bits-below, number-of, choice-points}
 use Rattle.cuts.proofs.Digits.{shr-suc, bit-suc}
 use Rattle.cuts.proofs.Within.{touched-chunk-below}
@@ -43,7 +43,7 @@ lowest-digit (suc zero) h = refl
 lowest-digit (suc (suc x)) h = absurd (omega arith)
 
 -- a number is its lowest bits below the rest of it
-bits-of-number : (f : ℕ → Bool) (from n m : ℕ) → ((k : ℕ) → k < n → f (from + k) ≡ bit m k) → bits-below (m / 2 ^ n) f from n ≡ m
+bits-of-number : (f : ℕ → Bool) (from n m : ℕ) → ((k : ℕ) → k < n → f (from + k) ≡ keeps-point m k) → bits-below (m / 2 ^ n) f from n ≡ m
 unfolding bits-below
 bits-of-number f from zero m a = div-one m
 bits-of-number f from (suc n) m a =
@@ -73,10 +73,10 @@ module _ (C K : ℕ) where
       let e : first + k - first ≡ k = omega arith in
       getD-tab _ K (first + k) false (p 0 (first + k) hit) ∙ rw (hit, e)))
 
-module _ (C : ℕ) (C⁺ : 0 < C) (v : AsyncView) (inside : valid v) (m : ℕ) (h : m < 2 ^ choice-points C v) where
-  pub number-of-choice : number-of C (v .outstanding-writes) (rows-of C (chunks C v) (v .outstanding-writes) m) ≡ m
-  number-of-choice = number-of-rows-of C (chunks C v) (v .outstanding-writes) m (touched-chunk-below C C⁺ v inside) h
+module _ (C : ℕ) (C⁺ : 0 < C) (v : AsyncView) (inside : writes-valid v) (m : ℕ) (h : m < 2 ^ choice-points C v) where
+  pub number-of-choice : number-of C (v .outstanding-writes) (rows-of C (view-chunks C v) (v .outstanding-writes) m) ≡ m
+  number-of-choice = number-of-rows-of C (view-chunks C v) (v .outstanding-writes) m (touched-chunk-below C C⁺ v inside) h
 
   -- the kept count of a choice number is its count of ones
-  pub kept-of-choice : kept C (v .outstanding-writes) (rows-of C (chunks C v) (v .outstanding-writes) m) ≡ ones m
+  pub kept-of-choice : kept C (v .outstanding-writes) (rows-of C (view-chunks C v) (v .outstanding-writes) m) ≡ ones m
   kept-of-choice = kept-is-ones C (v .outstanding-writes) _ ∙ ap ones number-of-choice

@@ -10,7 +10,7 @@ use lib.ListN.{length, getD, List·getD-append, List·getD-eq-default}
 use lib.Seq.{ext-getD, getD-append-add}
 use Rattle.region.specs.Tab.{tab}
 use Rattle.region.proofs.Tab.{length-tab, getD-tab}
-use Rattle.pieces.specs.Choice.{bit}
+use Rattle.pieces.specs.Choice.{keeps-point}
 use Rattle.pieces.specs.Rows.{byte-bits, row-bytes, row-bit, row-at, row-filled, set-bits}
 use Rattle.cuts.specs.Packed.{packed-byte, packed-row, are-bytes}
 use Rattle.cuts.proofs.Digits.{bit-of-bits-below, bits-below-lt}
@@ -20,7 +20,7 @@ unfolding set-bits
 no-set-bits b from zero h = refl
 no-set-bits b from (suc n) h = rw (h from (omega arith) (omega arith), no-set-bits b (suc from) n (λ c l k. h c (omega arith) (omega arith)))
 
-bit-of-packed-byte : (row : List Bool) (c : ℕ) → bit (packed-byte row (c / byte-bits)) (byte-bits - 1 - c % byte-bits) ≡ getD row c false
+bit-of-packed-byte : (row : List Bool) (c : ℕ) → keeps-point (packed-byte row (c / byte-bits)) (byte-bits - 1 - c % byte-bits) ≡ getD row c false
 unfolding packed-byte
 bit-of-packed-byte row c =
     let e : c / 8 * 8 + (8 - 1 - (0 + (8 - 1 - c % 8))) ≡ c = omega arith in
@@ -40,7 +40,7 @@ module _ (K : ℕ) (before : List ℕ) (row : List Bool) (after : List ℕ) wher
   unfolding packed-row
   bit-of-packed-row c h =
       let k : c / 8 < row-bytes K = omega arith in
-      ap (λ x. bit x (byte-bits - 1 - c % byte-bits))
+      ap (λ x. keeps-point x (byte-bits - 1 - c % byte-bits))
       (getD-append-add before (packed-row K row ++ after) (c / byte-bits) 0
       ∙ List·getD-append (packed-row K row) after 0 (c / byte-bits) (rw length-packed-row k) ∙ getD-tab (packed-byte row) (row-bytes K) (c / byte-bits) 0 k)
       ∙ bit-of-packed-byte row c

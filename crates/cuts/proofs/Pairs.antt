@@ -8,9 +8,9 @@ use mathlib.Core.Bool.{Bool, false}
 use mathlib.Core.List.{List, [], _∷_, _++_}
 use lib.ListN.{length, getD, List·getD-append}
 use Rattle.region.specs.Pmemspec.{can-result-from-partial-write}
-use Rattle.pieces.specs.AsyncSpec.{Write, AsyncView, apply-write-selective, flush-selective, write, can-crash}
+use Rattle.pieces.specs.AsyncSpec.{Write, no-write, AsyncView, apply-write-selective, flush-selective, write, can-crash}
 use Rattle.pieces.specs.Choice.{points, row-of, rows-of}
-use Rattle.cuts.specs.Bits.{no-write, new-write, agree-on-touched, chunks}
+use Rattle.cuts.specs.Bits.{agree-on-touched, view-chunks}
 use Rattle.cuts.specs.Number.{number-of, choice-image, choice-points}
 use Rattle.cuts.proofs.OneMore.{cut-of-a-write}
 use Rattle.cuts.proofs.PartWrites.{row-lays-part-write, part-write-has-row}
@@ -27,26 +27,25 @@ older-rows-agree C K ws w rows rows′ row row′ l l′ a j c h k =
     ap (λ r. getD r c false) (sym (List·getD-append rows (row ∷ []) [] j (omega arith)))
     ∙ a j c h (rw (List·getD-append ws (w ∷ []) no-write j b) k) ∙ ap (λ r. getD r c false) (List·getD-append rows′ (row′ ∷ []) [] j (omega arith))
 
-module _ (C : ℕ) (C⁺ : 0 < C) (v : AsyncView) (addr : ℕ) (bytes : List ℕ) where
+module _ (C : ℕ) (C⁺ : 0 < C) (v : AsyncView) (w : Write) where
   -- the number's image with the write is the write's part, by the number's highest points, over its image without
   pub choice-of-a-write : (m : ℕ)
-      → choice-image C (write v addr bytes) m
-      ≡ apply-write-selective C (choice-image C v m) (new-write addr bytes) (row-of C (chunks C v) (new-write addr bytes) (m / 2 ^ choice-points C v))
+      → choice-image C (write v w) m
+      ≡ apply-write-selective C (choice-image C v m) (w) (row-of C (view-chunks C v) (w) (m / 2 ^ choice-points C v))
   choice-of-a-write m =
-      ap (flush-selective C (write v addr bytes)) (rows-of-one-more C (chunks C v) (v .outstanding-writes) (new-write addr bytes) m)
-      ∙ cut-of-a-write C v addr bytes _ _ ((rows-of-shape C (chunks C v) (v .outstanding-writes) m) .row-for-each-write)
+      ap (flush-selective C (write v w)) (rows-of-one-more C (view-chunks C v) (v .outstanding-writes) (w) m)
+      ∙ cut-of-a-write C v w _ _ ((rows-of-shape C (view-chunks C v) (v .outstanding-writes) m) .row-for-each-write)
 
-  pub choice-is-part-write : (m : ℕ) → can-result-from-partial-write C (choice-image C (write v addr bytes) m) (choice-image C v m) addr bytes
-  choice-is-part-write m = rw (choice-of-a-write m) (row-lays-part-write C (choice-image C v m) addr bytes _)
+  pub choice-is-part-write : (m : ℕ) → can-result-from-partial-write C (choice-image C (write v w) m) (choice-image C v m) (w .addr) (w .bytes)
+  choice-is-part-write m = rw (choice-of-a-write m) (row-lays-part-write C (choice-image C v m) w _)
 
   -- the number of rows with one row more leaves, without the write, the image of the rows
   older-choices : (rows : List (List Bool)) (row : List Bool) → length rows ≡ length (v .outstanding-writes)
-      → choice-image C v (number-of C ((write v addr bytes) .outstanding-writes) (rows ++ (row ∷ []))) ≡ flush-selective C v rows
+      → choice-image C v (number-of C ((write v w) .outstanding-writes) (rows ++ (row ∷ []))) ≡ flush-selective C v rows
   older-choices rows row l =
       let ws = v .outstanding-writes in
-      let w = new-write addr bytes in
       let m = number-of C (ws ++ (w ∷ [])) (rows ++ (row ∷ [])) in
-      let K = chunks C v in
+      let K = view-chunks C v in
       untouched-bits-change-nothing
       C
       C⁺
@@ -67,24 +66,24 @@ module _ (C : ℕ) (C⁺ : 0 < C) (v : AsyncView) (addr : ℕ) (bytes : List ℕ
       (subst (λ r. agree-on-touched C K (ws ++ (w ∷ [])) r (rows ++ (row ∷ []))) (rows-of-one-more C K ws w m) (number-of-agrees C K (ws ++ (w ∷ [])) (rows ++ (row ∷ [])))))
 
   pub pairs-cover : (b a : List ℕ)
-      → (can-crash C v b × can-result-from-partial-write C a b addr bytes)
-      ↔ ((m : ℕ) × (m < 2 ^ choice-points C (write v addr bytes)) × (b ≡ choice-image C v m) × (a ≡ choice-image C (write v addr bytes) m))
+      → (can-crash C v b × can-result-from-partial-write C a b (w .addr) (w .bytes))
+      ↔ ((m : ℕ) × (m < 2 ^ choice-points C (write v w)) × (b ≡ choice-image C v m) × (a ≡ choice-image C (write v w) m))
   pairs-cover b a = (to, from)
     where
-      to : (can-crash C v b × can-result-from-partial-write C a b addr bytes)
-          → (m : ℕ) × (m < 2 ^ choice-points C (write v addr bytes)) × (b ≡ choice-image C v m) × (a ≡ choice-image C (write v addr bytes) m)
+      to : (can-crash C v b × can-result-from-partial-write C a b (w .addr) (w .bytes))
+          → (m : ℕ) × (m < 2 ^ choice-points C (write v w)) × (b ≡ choice-image C v m) × (a ≡ choice-image C (write v w) m)
       to ((rows, h), p) =
-          let found = part-write-has-row C b addr bytes C⁺ a p in
+          let found = part-write-has-row C b w C⁺ a p in
           let all = rows ++ (found .0 ∷ []) in
-          let m = number-of C ((write v addr bytes) .outstanding-writes) all in (
+          let m = number-of C ((write v w) .outstanding-writes) all in (
             m,
-            number-of-lt C ((write v addr bytes) .outstanding-writes) all,
+            number-of-lt C ((write v w) .outstanding-writes) all,
             h .leaves ∙ sym (older-choices rows (found .0) (h .row-for-each-write)),
-            found .2 ∙ ap (λ x. apply-write-selective C x (new-write addr bytes) (found .0)) (h .leaves)
-                ∙ sym (cut-of-a-write C v addr bytes rows (found .0) (h .row-for-each-write))
-                ∙ sym (number-leaves-the-image-of-its-rows C C⁺ (write v addr bytes) all),
+            found .2 ∙ ap (λ x. apply-write-selective C x (w) (found .0)) (h .leaves)
+                ∙ sym (cut-of-a-write C v w rows (found .0) (h .row-for-each-write))
+                ∙ sym (number-leaves-the-image-of-its-rows C C⁺ (write v w) all),
           )
 
-      from : ((m : ℕ) × (m < 2 ^ choice-points C (write v addr bytes)) × (b ≡ choice-image C v m) × (a ≡ choice-image C (write v addr bytes) m))
-          → can-crash C v b × can-result-from-partial-write C a b addr bytes
+      from : ((m : ℕ) × (m < 2 ^ choice-points C (write v w)) × (b ≡ choice-image C v m) × (a ≡ choice-image C (write v w) m))
+          → can-crash C v b × can-result-from-partial-write C a b (w .addr) (w .bytes)
       from (m, h, e, f) = (rw e (number-crashes C C⁺ v m), rw (e, f) (choice-is-part-write m))

@@ -6,8 +6,8 @@ use mathlib.Core.Bool.{Bool, true, false}
 use mathlib.Core.List.{List, [], _∷_, _++_}
 use lib.ListN.{length}
 use Rattle.region.specs.View.{valid, can-result-from-write, flush-predicted}
-use Rattle.pieces.specs.AsyncSpec.{AsyncView, flush-writes, flush-writes-selective, flush-selective, readable, write, can-crash-as, can-crash}
-use Rattle.cuts.specs.Bits.{keeps-all, chunks}
+use Rattle.pieces.specs.AsyncSpec.{Write, AsyncView, flush-writes, flush-writes-selective, flush-selective, readable, write, can-crash-as, can-crash}
+use Rattle.cuts.specs.Bits.{keeps-all, view-chunks}
 use Rattle.cuts.specs.Shape.{has-shape}
 use Rattle.cuts.specs.Prophecy.{prophecy}
 use Rattle.cuts.proofs.Lengths.{length-flush, length-flush-selective}
@@ -29,31 +29,31 @@ prophecy-of-nothing C true s rows = refl
 prophecy-of-nothing C false s rows = refl
 
 -- one write and one row more
-pub prophecy-of-a-write : (C : ℕ) (flushed : Bool) (v : AsyncView) (addr : ℕ) (bytes : List ℕ) (rows : List (List Bool)) (row : List Bool)
+pub prophecy-of-a-write : (C : ℕ) (flushed : Bool) (v : AsyncView) (w : Write) (rows : List (List Bool)) (row : List Bool)
     → length rows ≡ length (v .outstanding-writes)
-    → can-result-from-write C (prophecy C flushed (write v addr bytes) (rows ++ (row ∷ []))) (prophecy C flushed v rows) addr bytes
-prophecy-of-a-write C true v addr bytes rows row l =
-    let whole = read-of-a-write v addr bytes in
-    record { reads = whole; durables = rw whole (whole-write-is-part-write C (readable v) addr bytes) }
-prophecy-of-a-write C false v addr bytes rows row l =
+    → can-result-from-write C (prophecy C flushed (write v w) (rows ++ (row ∷ []))) (prophecy C flushed v rows) (w .addr) (w .bytes)
+prophecy-of-a-write C true v w rows row l =
+    let whole = read-of-a-write v w in
+    record { reads = whole; durables = rw whole (whole-write-is-part-write C (readable v) w) }
+prophecy-of-a-write C false v w rows row l =
     record {
-      reads = read-of-a-write v addr bytes;
-      durables = rw (cut-of-a-write C v addr bytes rows row l) (row-lays-part-write C (flush-selective C v rows) addr bytes row);
+      reads = read-of-a-write v w;
+      durables = rw (cut-of-a-write C v w rows row l) (row-lays-part-write C (flush-selective C v rows) w row);
     }
 
 module _ (C : ℕ) (C⁺ : 0 < C) (v : AsyncView) (rows : List (List Bool)) where
   -- a flush that is foretold is the cut that keeps everything
-  pub foretold-flush-keeps-everything : keeps-all C (chunks C v) (v .outstanding-writes) rows → prophecy C false v rows ≡ prophecy C true v rows
+  pub foretold-flush-keeps-everything : keeps-all C (view-chunks C v) (v .outstanding-writes) rows → prophecy C false v rows ≡ prophecy C true v rows
   foretold-flush-keeps-everything k =
       ap (λ x. record { read-state = readable v; durable-state = x }) (flush-is-the-cut-that-keeps-everything C C⁺ v rows k)
 
   pub flush-predicted-if-foretold : flush-predicted (prophecy C true v rows)
   flush-predicted-if-foretold = refl
 
-  pub flush-predicted-if-all-kept : keeps-all C (chunks C v) (v .outstanding-writes) rows → flush-predicted (prophecy C false v rows)
+  pub flush-predicted-if-all-kept : keeps-all C (view-chunks C v) (v .outstanding-writes) rows → flush-predicted (prophecy C false v rows)
   flush-predicted-if-all-kept k = flush-is-the-cut-that-keeps-everything C C⁺ v rows k
 
-  pub cut-could-leave-the-prophecy : (flushed : Bool) → has-shape (chunks C v) (length (v .outstanding-writes)) rows
+  pub cut-could-leave-the-prophecy : (flushed : Bool) → has-shape (view-chunks C v) (length (v .outstanding-writes)) rows
       → can-crash C v ((prophecy C flushed v rows) .durable-state)
   cut-could-leave-the-prophecy true h = cut-could-leave-the-read-image C C⁺ v
   cut-could-leave-the-prophecy false h = (rows, shaped-rows-crash C v rows h)

@@ -9,11 +9,11 @@ use native.Mathlib.Numerals.{add-one}
 use lib.ListN.{length, getD, take, length-append, List·getD-append}
 use lib.Seq.{getD-at, getD-take, take-suc, take-all, length-take-le}
 use Rattle.pieces.specs.AsyncSpec.{AsyncView, flush-selective, can-crash-as}
-use Rattle.cuts.specs.Bits.{chunks}
+use Rattle.cuts.specs.Bits.{view-chunks}
 use Rattle.cuts.specs.Shape.{has-shape}
 use Rattle.cuts.proofs.Lengths.{length-flush-selective}
 
-pub shaped-rows-crash : (C : ℕ) (v : AsyncView) (rows : List (List Bool)) → has-shape (chunks C v) (length (v .outstanding-writes)) rows
+pub shaped-rows-crash : (C : ℕ) (v : AsyncView) (rows : List (List Bool)) → has-shape (view-chunks C v) (length (v .outstanding-writes)) rows
     → can-crash-as C v (flush-selective C v rows) rows
 shaped-rows-crash C v rows h =
     record {
@@ -24,7 +24,7 @@ shaped-rows-crash C v rows h =
     }
 
 pub crash-rows-shaped : (C : ℕ) (v : AsyncView) (x : List ℕ) (rows : List (List Bool)) → can-crash-as C v x rows
-    → has-shape (chunks C v) (length (v .outstanding-writes)) rows
+    → has-shape (view-chunks C v) (length (v .outstanding-writes)) rows
 crash-rows-shaped C v x rows h = record { row-for-each-write = h .row-for-each-write; bit-for-each-chunk = h .bit-for-each-chunk }
 
 module _ (K n : ℕ) where

@@ -13,7 +13,7 @@ use borrow.Author.Tests.{eq-eqb}
 use Rattle.region.proofs.Tab.{length-tab}
 use Rattle.pieces.specs.AsyncSpec.{AsyncView, flush-selective, can-crash}
 use Rattle.pieces.specs.Rows.{row-bytes, row-at, rows-at, rows-filled, rows-right}
-use Rattle.cuts.specs.Bits.{chunks}
+use Rattle.cuts.specs.Bits.{view-chunks}
 use Rattle.cuts.specs.Shape.{has-shape}
 use Rattle.cuts.specs.Packed.{packed-row, packed, are-bytes}
 use Rattle.cuts.proofs.Shape.{shaped-rows-crash, crash-rows-shaped}
@@ -77,12 +77,12 @@ pub tables-cover : (C : ℕ) (v : AsyncView) (x : List ℕ)
     → can-crash C v x
     ↔ ((table : List ℕ)
     × are-bytes table
-    × (rows-right (chunks C v) (length (v .outstanding-writes)) table ≡ true)
-    × (x ≡ flush-selective C v (rows-at (chunks C v) (length (v .outstanding-writes)) table 0)))
+    × (rows-right (view-chunks C v) (length (v .outstanding-writes)) table ≡ true)
+    × (x ≡ flush-selective C v (rows-at (view-chunks C v) (length (v .outstanding-writes)) table 0)))
 tables-cover C v x = (to, from)
   where
     K : ℕ
-    K = chunks C v
+    K = view-chunks C v
 
     n : ℕ
     n = length (v .outstanding-writes)

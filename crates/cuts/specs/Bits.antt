@@ -5,16 +5,8 @@ use mathlib.Core.Bool.{Bool, true, false}
 use mathlib.Core.List.{List, []}
 use lib.ListN.{length, getD}
 use Rattle.region.specs.Tab.{inside}
-use Rattle.pieces.specs.AsyncSpec.{Write, AsyncView, len, size-to-chunks}
+use Rattle.pieces.specs.AsyncSpec.{Write, no-write, AsyncView, len, size-to-chunks}
 use Rattle.pieces.specs.Choice.{touches}
-
--- what stands past the end of a log: it covers no byte and touches no chunk
-abbrev pub no-write : Write
-no-write = record { addr = 0; bytes = [] }
-
--- the write that `write` puts to the end of the log
-abbrev pub new-write : ℕ → List ℕ → Write
-new-write addr bytes = record { addr = addr; bytes = bytes }
 
 -- write j of a log
 abbrev pub write-at : List Write → ℕ → Write
@@ -42,5 +34,5 @@ abbrev pub keeps-all : ℕ → ℕ → List Write → List (List Bool) → Type 
 keeps-all C K ws rows = (j c : ℕ) → c < K → touches-chunk C (write-at ws j) c ≡ true → row-bit-at rows j c ≡ true
 
 -- document 01's K of a view
-abbrev pub chunks : ℕ → AsyncView → ℕ
-chunks C v = size-to-chunks C (len v)
+abbrev pub view-chunks : ℕ → AsyncView → ℕ
+view-chunks C v = size-to-chunks C (len v)

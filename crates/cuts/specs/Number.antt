@@ -5,7 +5,7 @@ use mathlib.Core.List.{List, [], _∷_}
 use lib.ListN.{length, getD, drop}
 use Rattle.pieces.specs.AsyncSpec.{Write, AsyncView, addr-to-chunk, flush-selective}
 use Rattle.pieces.specs.Choice.{touched, points, rows-of}
-use Rattle.cuts.specs.Bits.{chunks}
+use Rattle.cuts.specs.Bits.{view-chunks}
 
 -- the bits f from, f (from + 1), .., n of them, lowest first, put below the bits of hi
 unfoldable pub bits-below : ℕ → (ℕ → Bool) → ℕ → ℕ → ℕ
@@ -23,7 +23,7 @@ number-of C (w ∷ ws) rows =
 
 -- the image that a cut by choice number m leaves
 abbrev pub choice-image : ℕ → AsyncView → ℕ → List ℕ
-choice-image C v m = flush-selective C v (rows-of C (chunks C v) (v .outstanding-writes) m)
+choice-image C v m = flush-selective C v (rows-of C (view-chunks C v) (v .outstanding-writes) m)
 
 -- document 01's n of a view: "the number of choice points"
 abbrev pub choice-points : ℕ → AsyncView → ℕ

@@ -15,6 +15,14 @@ pub record Write : Type 0 where
   pub addr : ℕ
   pub bytes : List ℕ
 
+-- what a call is handed, as a write
+abbrev pub write-of : (addr : ℕ) (bytes : List ℕ) → Write
+write-of addr bytes = record { addr = addr; bytes = bytes }
+
+-- what stands where a log has no write: it covers no byte and touches no chunk
+abbrev pub no-write : Write
+no-write = write-of 0 []
+
 -- `addr_to_chunk`
 abbrev pub addr-to-chunk : ℕ → ℕ → ℕ
 addr-to-chunk C addr = addr / C
@@ -45,17 +53,13 @@ len v = length (v .state-at-last-flush)
 abbrev pub within : ℕ → Write → Type 0
 within n w = w .addr + length (w .bytes) ≤ n
 
--- `valid`
-abbrev pub valid : AsyncView → Type 0
-valid v = (i : ℕ) → i < length (v .outstanding-writes) → within (len v) (getD (v .outstanding-writes) i (record { addr = 0; bytes = [] }))
+-- `valid`, which the view of pmemspec_t.rs has too
+abbrev pub writes-valid : AsyncView → Type 0
+writes-valid v = (i : ℕ) → i < length (v .outstanding-writes) → within (len v) (getD (v .outstanding-writes) i no-write)
 
--- `write`: the new write goes to the end of the log
-abbrev pub write : AsyncView → ℕ → List ℕ → AsyncView
-write v addr bytes =
-    record {
-      state-at-last-flush = v .state-at-last-flush;
-      outstanding-writes = v .outstanding-writes ++ (record { addr = addr; bytes = bytes } ∷ []);
-    }
+-- `write`: the new write, there its address and bytes, goes to the end of the log
+abbrev pub write : AsyncView → Write → AsyncView
+write v w = record { state-at-last-flush = v .state-at-last-flush; outstanding-writes = v .outstanding-writes ++ (w ∷ []) }
 
 -- `flush`, on the two fields of the view: oldest write first, one write falling away at each step
 unfoldable pub flush-writes : List ℕ → List Write → AsyncView

@@ -21,13 +21,13 @@ unfoldable pub points : ℕ → List Write → ℕ
 points C [] = 0
 points C (w ∷ ws) = touched C (w .addr) (length (w .bytes)) + points C ws
 
--- bit i of m, which has weight 2^i
-abbrev pub bit : ℕ → ℕ → Bool
-bit m i = eqb (m / 2 ^ i % 2) 1
+-- "Choice number m keeps point i exactly if bit i of m (weight 2^i) is 1."
+abbrev pub keeps-point : (m i : ℕ) → Bool
+keeps-point m i = eqb (m / 2 ^ i % 2) 1
 
 -- the row that m's lowest points give a write: its touched chunks, lowest first
 unfoldable pub row-of : ℕ → ℕ → Write → ℕ → List Bool
-row-of C K w m = tab (λ c. touches C (w .addr) (length (w .bytes)) c && bit m (c - addr-to-chunk C (w .addr))) K
+row-of C K w m = tab (λ c. touches C (w .addr) (length (w .bytes)) c && keeps-point m (c - addr-to-chunk C (w .addr))) K
 
 -- "Points are numbered from 0, oldest write first, lowest chunk first": the rows of choice number m, for K chunks
 unfoldable pub rows-of : ℕ → ℕ → List Write → ℕ → List (List Bool)

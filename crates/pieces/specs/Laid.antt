@@ -7,13 +7,8 @@ use Rattle.pieces.specs.AsyncSpec.{Write, apply-write-selective, size-to
 use Rattle.pieces.specs.Choice.{row-of}
 use Rattle.pieces.specs.Rows.{row-at}
 
-abbrev write-of : ℕ → List ℕ → Write
-write-of addr bytes = record { addr = addr; bytes = bytes }
+abbrev pub laid-by-row : (C : ℕ) (image : List ℕ) → Write → (table : List ℕ) (at : ℕ) → List ℕ
+laid-by-row C image w table at = apply-write-selective C image w (row-at (size-to-chunks C (length image)) table at)
 
-abbrev pub laid-by-row : (C : ℕ) (image : List ℕ) (addr : ℕ) (bytes table : List ℕ) (at : ℕ) → List ℕ
-laid-by-row C image addr bytes table at =
-    apply-write-selective C image (write-of addr bytes) (row-at (size-to-chunks C (length image)) table at)
-
-abbrev pub laid-by-choice : (C : ℕ) (image : List ℕ) (addr : ℕ) (bytes : List ℕ) (m : ℕ) → List ℕ
-laid-by-choice C image addr bytes m =
-    apply-write-selective C image (write-of addr bytes) (row-of C (size-to-chunks C (length image)) (write-of addr bytes) m)
+abbrev pub laid-by-choice : (C : ℕ) (image : List ℕ) → Write → (m : ℕ) → List ℕ
+laid-by-choice C image w m = apply-write-selective C image w (row-of C (size-to-chunks C (length image)) w m)

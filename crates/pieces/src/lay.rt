@@ -6,7 +6,7 @@ ghost use Prim.Native.Nat.{_+_, _≤_};
 ghost use lib.ListN.{length};
 ghost use Rattle.region.specs.Limits.{const-persistence-chunk-size, points-limit};
 ghost use Rattle.region.specs.Pmemspec.{update-bytes};
-ghost use Rattle.pieces.specs.AsyncSpec.{size-to-chunks};
+ghost use Rattle.pieces.specs.AsyncSpec.{write-of, size-to-chunks};
 ghost use Rattle.pieces.specs.Choice.{touched};
 ghost use Rattle.pieces.specs.Rows.{row-bytes};
 ghost use Rattle.pieces.specs.Laid.{laid-by-row, laid-by-choice};
@@ -27,7 +27,7 @@ pub fn lay(work: &mut [u8], addr: usize, bytes: &[u8])
 pub fn lay_selected(work: &mut [u8], addr: usize, bytes: &[u8], rows: &[u8], at: usize)
     requires { ⌜ addr + length (now bytes) ≤ length (now work) ⌝ }
     requires { ⌜ at + row-bytes (size-to-chunks const-persistence-chunk-size (length (now work))) ≤ length (now rows) ⌝ }
-    ensures { λ _. ⌜ now (work .exit) ≡ laid-by-row const-persistence-chunk-size (now (work .entry)) addr (now (bytes .entry)) (now (rows .entry)) at ⌝ }
+    ensures { λ _. ⌜ now (work .exit) ≡ laid-by-row const-persistence-chunk-size (now (work .entry)) (write-of addr (now (bytes .entry))) (now (rows .entry)) at ⌝ }
 {
     let mut j = 0;
     while j < bytes.len() {
@@ -43,7 +43,7 @@ pub fn lay_selected(work: &mut [u8], addr: usize, bytes: &[u8], rows: &[u8], at:
 pub fn lay_chosen(work: &mut [u8], addr: usize, bytes: &[u8], m: usize)
     requires { ⌜ addr + length (now bytes) ≤ length (now work) ⌝ }
     requires { ⌜ touched const-persistence-chunk-size addr (length (now bytes)) ≤ points-limit ⌝ }
-    ensures { λ _. ⌜ now (work .exit) ≡ laid-by-choice const-persistence-chunk-size (now (work .entry)) addr (now (bytes .entry)) m ⌝ }
+    ensures { λ _. ⌜ now (work .exit) ≡ laid-by-choice const-persistence-chunk-size (now (work .entry)) (write-of addr (now (bytes .entry))) m ⌝ }
 {
     let first = addr / CHUNK_SIZE;
     let mut j = 0;

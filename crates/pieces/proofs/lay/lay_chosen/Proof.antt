@@ -9,7 +9,7 @@ use mathlib.Core.Path.{_≡_, refl, sym, ap, _∙_}
 use lib.Seq.{take-length}
 use lib.ListN.{length, getD, take, set, length-set}
 use borrow.Author.Tests.{eq-eqb, ne-eqb}
-use Rattle.pieces.specs.Choice.{bit, row-of}
+use Rattle.pieces.specs.Choice.{keeps-point, row-of}
 use Rattle.pieces.specs.AsyncSpec.{size-to-chunks, apply-write-selective}
 use Rattle.region.specs.Limits.{const-persistence-chunk-size}
 use Rattle.pieces.proofs.ChoiceBits.{byte-touches, chosen-bit}
@@ -45,7 +45,7 @@ loop-again c =
     let i = a .addr + at-loop .j in
     let more : at-loop .j < length (a .bytes .now) = omega arith in
     let fits : a .addr + at-loop .j < length (a .work .now) = omega arith in
-    let here : keep start i ≡ bit (a .m) (i / const-persistence-chunk-size - a .addr / const-persistence-chunk-size) =
+    let here : keep start i ≡ keeps-point (a .m) (i / const-persistence-chunk-size - a .addr / const-persistence-chunk-size) =
     chosen-bit _ (a .addr) (a .bytes .now) (a .m) (at-loop .j) more (omega arith) in
     let next = ap (λ (n : ℕ). lay (keep start) (a .work .now) (a .addr) (take n (a .bytes .now))) (sym (add-one (at-loop .j))) in
     ⊎-elim
