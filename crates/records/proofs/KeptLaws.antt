@@ -73,30 +73,30 @@ kept-more L r rs table row left some lies =
     (set-bits-agree (λ c. getD (row-at K table row) c false) (row-bit table row) (r .addr / C) (touched C (r .addr) (r .len))
     (λ c l h. row-at-bit K table row c (omega (arith, touched-inside L (r .addr) (r .len) lies))))
 
--- The count under way: the records from i on are to come, their rows lie from `row` on, and what they keep is what the sum lacks.
-pub record Counting (L : ℕ) (st : State) (table : List ℕ) (sum row i : ℕ) : Type 0 where
+-- The count under way: the records from i on are to come, their rows lie from `row` on, and what they keep is what the sum lacks. The rows begin at `first`.
+pub record Counting (L : ℕ) (st : State) (table : List ℕ) (first sum row i : ℕ) : Type 0 where
   pub there : row + (st .count - i) * width L ≤ length table
   pub inside : records-inside L (drop i (log-records st)) ≡ true
   pub bytes : sum + together (drop i (log-records st)) ≤ together (log-records st)
   pub pieces : sum + kept-records C (drop i (log-records st)) (rows-at (chunks L) (st .count - i) table row)
-      ≡ kept-records C (log-records st) (rows-at (chunks L) (st .count) table 0)
+      ≡ kept-records C (log-records st) (rows-at (chunks L) (st .count) table first)
 
 -- what its next record brings
-pub record Turn (L : ℕ) (st : State) (table : List ℕ) (sum row i : ℕ) (r : Record) : Type 0 where
+pub record Turn (L : ℕ) (st : State) (table : List ℕ) (first sum row i : ℕ) (r : Record) : Type 0 where
   pub lies : r .addr + r .len ≤ L
   pub row-there : row + width L ≤ length table
-  pub after : (n w : ℕ) → n ≡ kept-here table row r → w ≡ width L → Counting L st table (sum + n) (row + w) (i + 1)
+  pub after : (n w : ℕ) → n ≡ kept-here table row r → w ≡ width L → Counting L st table first (sum + n) (row + w) (i + 1)
 
-module _ (L : ℕ) (st : State) (table : List ℕ) where
-  pub count-starts : KeptFrom L st (length table) → Counting L st table 0 0 0
+module _ (L : ℕ) (st : State) (table : List ℕ) (first : ℕ) where
+  pub count-starts : KeptFrom C L st (length table) first → Counting L st table first 0 first 0
   count-starts from =
       let all : st .count - 0 ≡ st .count = sub-zero (st .count) in
       record { there = rw all (omega (arith, from .right)); inside = from .inside; bytes = omega arith; pieces = rw all (zero-add _) }
 
-  pub turn : {sum row i : ℕ} {r : Record} → KeptFrom L st (length table) → Counting L st table sum row i → i < st .count → r ≡ next st i → Turn L st table sum row i r
-  turn {sum} {row} {i} from c more e = subst (Turn L st table sum row i) (sym e) by-next
+  pub turn : {sum row i : ℕ} {r : Record} → KeptFrom C L st (length table) first → Counting L st table first sum row i → i < st .count → r ≡ next st i → Turn L st table first sum row i r
+  turn {sum} {row} {i} from c more e = subst (Turn L st table first sum row i) (sym e) by-next
     where
-      by-next : Turn L st table sum row i (next st i)
+      by-next : Turn L st table first sum row i (next st i)
       by-next =
           let few : st .count ≤ length (st .records) = omega (arith, from .few, from .sized) in
           let in-both = both _ _ (sym (inside-more st i more few L) ∙ c .inside) in
@@ -110,7 +110,7 @@ module _ (L : ℕ) (st : State) (table : List ℕ) where
           record {
             lies = lies;
             row-there = omega (arith, c .there, off);
-            after = λ n w e wide. subst⁻¹ (λ (v : ℕ). Counting L st table (sum + n) (row + v) (i + 1)) wide
+            after = λ n w e wide. subst⁻¹ (λ (v : ℕ). Counting L st table first (sum + n) (row + v) (i + 1)) wide
                 (record {
                   there = omega (arith, c .there, off);
                   inside = in-both .1;
@@ -119,8 +119,8 @@ module _ (L : ℕ) (st : State) (table : List ℕ) where
                 });
           }
 
-  pub count-ends : {sum row i : ℕ} → st .count ≤ i → Counting L st table sum row i
-      → sum ≡ kept-records C (log-records st) (rows-at (chunks L) (st .count) table 0)
+  pub count-ends : {sum row i : ℕ} → st .count ≤ i → Counting L st table first sum row i
+      → sum ≡ kept-records C (log-records st) (rows-at (chunks L) (st .count) table first)
   unfolding kept-records
   count-ends {sum} {row} {i} done c =
       sym (add-zero sum)

@@ -1,8 +1,9 @@
 -- The laws of `records`' definitions. `Records` takes the records of a log one at a time; `Soundness` takes the test of refusal 1 apart and puts it
--- together; `Views` has what a recorded write and an emptied log do to the view; `Walk` has a step of each replay, and `KeptLaws` a turn of the kept
+-- together; `RoomLaws` those for one record more; `Views` has what a recorded write and an emptied log do to the view; `Walk` has a step of each replay, and `KeptLaws` a turn of the kept
 -- count. `Branch`, `RecordRow` and `LentRecords` are what the walks over a lent list of records share.
 pub mod Records
 pub mod Soundness
+pub mod RoomLaws
 pub mod Views
 pub mod Walk
 pub mod KeptLaws

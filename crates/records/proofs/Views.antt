@@ -16,10 +16,11 @@ use Rattle.region.specs.Pmemspec.{update-bytes}
 use Rattle.region.proofs.Booleans.{both, both-true}
 use Rattle.pieces.specs.AsyncSpec.{Write, write}
 use Rattle.pieces.proofs.Laid.{update-is-lay, length-update, lay-below, update-reads-back}
-use Rattle.records.specs.State.{log-records, together, records-inside, writes-of, view, appended, log-with, emptied}
+use Rattle.records.specs.State.{log-records, together, records-inside, writes-of, record-of, appended}
+use Rattle.records.specs.Desk.{Desk, view, with-write, settled-desk}
 use Rattle.records.specs.declared.state.Record.{Record}
 use Rattle.records.specs.declared.state.State.{State}
-use Rattle.records.proofs.Soundness.{Sound, Room}
+use Rattle.records.proofs.Soundness.{SoundFor, Sound, Room}
 
 -- the bytes below a place are untouched by what is laid there
 laid-behind : (log : List ℕ) (at : ℕ) (bytes : List ℕ) → at ≤ length log → take at (update-bytes log at bytes) ≡ take at log
@@ -72,27 +73,25 @@ writes-last (x ∷ rs) r l =
     (writes-last rs r (drop (x .len) l)
     ∙ ap (λ (k : List ℕ). writes-of rs (drop (x .len) l) ++ (record { addr = r .addr; bytes = take (r .len) k } ∷ [])) (drop-drop (together rs) (x .len) l))
 
-module _ (st : State) (addr n : ℕ) (sized : length (st .records) ≡ writes-limit) where
-  pub records-of-appended : st .count < writes-limit → log-records (appended st addr n) ≡ log-records st ++ (record { addr = addr; len = n } ∷ [])
+module _ (st : State) (r : Record) (sized : length (st .records) ≡ writes-limit) where
+  pub records-of-appended : st .count < writes-limit → log-records (appended st r) ≡ log-records st ++ (r ∷ [])
   records-of-appended few =
-      ap (λ (k : ℕ). take k (set (st .records) (st .count) (record { addr = addr; len = n }))) (add-one (st .count))
-      ∙ take-suc-set (st .records) (st .count) (record { addr = addr; len = n }) (omega arith)
+      ap (λ (k : ℕ). take k (set (st .records) (st .count) r)) (add-one (st .count)) ∙ take-suc-set (st .records) (st .count) r (omega arith)
 
-  pub sized-of-appended : length (appended st addr n .records) ≡ writes-limit
-  sized-of-appended = length-set (st .records) (st .count) (record { addr = addr; len = n }) ∙ sized
+  pub sized-of-appended : length (appended st r .records) ≡ writes-limit
+  sized-of-appended = length-set (st .records) (st .count) r ∙ sized
 
 -- the state stays sound
-pub sound-of-appended : (L : ℕ) (st : State) (log-length addr n : ℕ) → length (st .records) ≡ writes-limit → Sound L st log-length → Room L st addr n
-    → Sound L (appended st addr n) log-length
-sound-of-appended L st log-length addr n sized s r =
-    let rs = records-of-appended st addr n sized (r .few) in
-    let new : Record = record { addr = addr; len = n } in
+sound-of-appended : (L : ℕ) (st : State) (log-length : ℕ) (r : Record) → length (st .records) ≡ writes-limit → SoundFor L st log-length → Room L st r
+    → SoundFor L (appended st r) log-length
+sound-of-appended L st log-length r sized s room =
+    let rs = records-of-appended st r sized (room .few) in
     record {
       short = s .short;
       buffer = s .buffer;
-      few = omega (arith, r .few);
-      inside = ap (records-inside L) rs ∙ inside-last L (log-records st) new (s .inside) (r .lies);
-      room = omega (arith, ap together rs, together-last (log-records st) new, r .fits);
+      few = omega (arith, room .few);
+      inside = ap (records-inside L) rs ∙ inside-last L (log-records st) r (s .inside) (room .lies);
+      room = omega (arith, ap together rs, together-last (log-records st) r, room .fits);
     }
 
 -- one write for each record of the log
@@ -101,38 +100,40 @@ unfolding writes-of
 length-writes-of [] log = refl
 length-writes-of (r ∷ rs) log = ap suc (length-writes-of rs (drop (r .len) log))
 
-pub writes-counted : (image : List ℕ) (st : State) (log : List ℕ) → st .count ≤ length (st .records) → length (view image st log .outstanding-writes) ≡ st .count
-writes-counted image st log h = length-writes-of (log-records st) log ∙ length-take-le (st .count) (st .records) h
+pub writes-counted : (d : Desk) → d .state .count ≤ length (d .state .records) → length (view d .outstanding-writes) ≡ d .state .count
+writes-counted d h = length-writes-of (log-records (d .state)) (d .log) ∙ length-take-le (d .state .count) (d .state .records) h
 
 -- the step of an accepted write
-module _ (image : List ℕ) (st : State) (log : List ℕ) (addr : ℕ) (bytes : List ℕ) (sized : length (st .records) ≡ writes-limit) (s : Sound (length image) st (length log)) (r : Room (length image) st addr (length bytes)) where
-  abbrev at : ℕ
-  at = together (log-records st)
+module _ (d : Desk) (w : Write) (sized : length (d .state .records) ≡ writes-limit) (s : Sound d) (room : Room (length (d .image)) (d .state) (record-of w)) where
+  abbrev rs : List Record
+  rs = log-records (d .state)
 
-  fits-log : at + length bytes ≤ length log
-  fits-log = omega (arith, s .buffer, r .fits)
+  abbrev log : List ℕ
+  log = with-write d w .log
 
-  pub view-of-recorded : view image (appended st addr (length bytes)) (log-with st log bytes) ≡ write (view image st log) addr bytes
+  fits-log : together rs + length (w .bytes) ≤ length (d .log)
+  fits-log = omega (arith, s .buffer, room .fits)
+
+  pub view-of-recorded : view (with-write d w) ≡ write (view d) w
   view-of-recorded =
-      let new : Record = record { addr = addr; len = length bytes } in
-      ap (λ (ws : List Write). record { state-at-last-flush = image; outstanding-writes = ws })
-      (ap (λ (rs : List Record). writes-of rs (update-bytes log at bytes)) (records-of-appended st addr (length bytes) sized (r .few))
-      ∙ writes-last (log-records st) new (update-bytes log at bytes)
-      ∙ ap₂ (λ (ws : List Write) (b : List ℕ). ws ++ (record { addr = addr; bytes = b } ∷ []))
-      (writes-agree (log-records st) (update-bytes log at bytes) log (laid-behind log at bytes (omega (arith, fits-log))))
-      (update-reads-back log at bytes fits-log))
+      ap (λ (ws : List Write). record { state-at-last-flush = d .image; outstanding-writes = ws })
+      (ap (λ (rs : List Record). writes-of rs log) (records-of-appended (d .state) (record-of w) sized (room .few))
+      ∙ writes-last rs (record-of w) log
+      ∙ ap₂ (λ (ws : List Write) (b : List ℕ). ws ++ (record { addr = w .addr; bytes = b } ∷ []))
+      (writes-agree rs log (d .log) (laid-behind (d .log) (together rs) (w .bytes) (omega (arith, fits-log))))
+      (update-reads-back (d .log) (together rs) (w .bytes) fits-log))
 
-  pub sound-after-recorded : Sound (length image) (appended st addr (length bytes)) (length (log-with st log bytes))
+  pub sound-after-recorded : Sound (with-write d w)
   sound-after-recorded =
-      subst⁻¹ (Sound (length image) (appended st addr (length bytes))) (length-update log at bytes)
-      (sound-of-appended (length image) st (length log) addr (length bytes) sized s r)
+      subst⁻¹ (SoundFor (length (d .image)) (appended (d .state) (record-of w))) (length-update (d .log) (together rs) (w .bytes))
+      (sound-of-appended (length (d .image)) (d .state) (length (d .log)) (record-of w) sized s room)
 
 -- an empty log
-module _ (st : State) where
-  pub view-of-emptied : (image log : List ℕ) → view image (emptied st) log ≡ record { state-at-last-flush = image; outstanding-writes = [] }
+module _ (d : Desk) (image : List ℕ) where
+  pub view-of-settled : view (settled-desk d image) ≡ record { state-at-last-flush = image; outstanding-writes = [] }
   unfolding writes-of
-  view-of-emptied image log = refl
+  view-of-settled = refl
 
-  pub sound-after-emptied : (L log-length : ℕ) → L ≤ image-limit → log-length ≡ log-limit → Sound L (emptied st) log-length
+  pub sound-after-settled : length image ≤ image-limit → length (d .log) ≡ log-limit → Sound (settled-desk d image)
   unfolding records-inside together
-  sound-after-emptied L log-length short buffer = record { short = short; buffer = buffer; few = omega arith; inside = refl; room = omega arith }
+  sound-after-settled short buffer = record { short = short; buffer = buffer; few = omega arith; inside = refl; room = omega arith }

@@ -7,7 +7,7 @@ use mathlib.Core.List.{List, [], _∷_}
 use lib.ListN.{length, take, drop, length-take}
 use lib.Seq.{drop-drop}
 use borrow.Author.Tests.{leb-true}
-use Rattle.region.specs.Limits.{writes-limit, const-persistence-chunk-size}
+use Rattle.region.specs.Limits.{writes-limit}
 use Rattle.region.specs.Pmemspec.{update-bytes}
 use Rattle.region.proofs.Booleans.{both}
 use Rattle.pieces.specs.AsyncSpec.{Write, size-to-chunks, apply-write-selective, committed, flush-writes, flush-writes-selective}
@@ -17,7 +17,7 @@ use Rattle.records.specs.State.{log-records, together, records-inside, w
 use Rattle.records.specs.Log.{last-records, last-writes, Remaining}
 use Rattle.records.specs.declared.state.Record.{Record}
 use Rattle.records.specs.declared.state.State.{State}
-use Rattle.records.proofs.Soundness.{Sound}
+use Rattle.records.proofs.Soundness.{SoundFor}
 use Rattle.records.proofs.Records.{next, together-more, inside-more, writes-more, records-none}
 
 -- the oldest of the last `left` records
@@ -86,14 +86,13 @@ module _ {L : ℕ} {st : State} {n at left : ℕ} {r : Record} (s : StepBy L st 
       ap (λ (w : List ℕ). committed (flush-writes w (last-writes st (left - 1) log (at + r .len)))) (e ∙ ap (update-bytes work (r .addr)) (piece-is at (r .len) log))
       ∙ sym (ap (λ (ws : List Write). committed (flush-writes work ws)) (s .writes log))
 
-  pub selected-step : (rows : List ℕ) (row width : ℕ) → let C = const-persistence-chunk-size in let K = size-to-chunks C (length work) in
+  pub selected-step : (C : ℕ) (rows : List ℕ) (row width : ℕ) → let K = size-to-chunks C (length work) in
       0 < left → width ≡ row-bytes K → length laid ≡ length work
       → laid ≡ apply-write-selective C work (record { addr = r .addr; bytes = take (at + r .len - at) (drop at log) }) (row-at K rows row)
       → flush-writes-selective C laid (last-writes st (left - 1) log (at + r .len)) (rows-at (size-to-chunks C (length laid)) (left - 1) rows (row + width))
       ≡ flush-writes-selective C work (last-writes st left log at) (rows-at K left rows row)
   unfolding flush-writes-selective
-  selected-step rows row width some wide same e =
-      let C = const-persistence-chunk-size in
+  selected-step C rows row width some wide same e =
       let K = size-to-chunks C (length work) in
       let writes = last-writes st (left - 1) log (at + r .len) in
       ap₂ (λ (n w : ℕ). flush-writes-selective C laid writes (rows-at (size-to-chunks C n) (left - 1) rows (row + w))) same wide
@@ -103,7 +102,7 @@ module _ {L : ℕ} {st : State} {n at left : ℕ} {r : Record} (s : StepBy L st 
 
 -- a walk over the whole log of a sound state
 module _ (L : ℕ) (st : State) (n : ℕ) where
-  pub all-remain : length (st .records) ≡ writes-limit → Sound L st n → Remaining L st n 0 (st .count)
+  pub all-remain : length (st .records) ≡ writes-limit → SoundFor L st n → Remaining L st n 0 (st .count)
   all-remain sized s =
       let from-first : st .count - st .count ≡ 0 = sub-self (st .count) in
       record {

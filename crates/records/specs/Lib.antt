@@ -1,3 +1,5 @@
--- The definitions that `records`' contracts cite: `State` says what the lent memory means, `Log` what a walk over it has before it and leaves.
+-- The definitions that `records`' contracts cite: `State` says what the state means, `Desk` what the memory of a desk
+-- does, `Log` what a walk over the log has before it and leaves.
 pub mod State
+pub mod Desk
 pub mod Log

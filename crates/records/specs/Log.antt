@@ -4,7 +4,7 @@ use mathlib.Core.Path.{_≡_}
 use mathlib.Core.Bool.{Bool, true, false}
 use mathlib.Core.List.{List, [], _∷_}
 use lib.ListN.{length, getD, drop}
-use Rattle.region.specs.Limits.{image-limit, writes-limit, log-limit, const-persistence-chunk-size}
+use Rattle.region.specs.Limits.{image-limit, writes-limit, log-limit}
 use Rattle.pieces.specs.AsyncSpec.{Write, addr-to-chunk, size-to-chunks, committed, flush-writes, flush-writes-selective}
 use Rattle.pieces.specs.Choice.{touched}
 use Rattle.pieces.specs.Rows.{set-bits, row-bytes, rows-at}
@@ -15,7 +15,7 @@ use Rattle.records.specs.declared.state.State.{State}
 abbrev pub last-records : State → ℕ → List Record
 last-records st left = drop (st .count - left) (log-records st)
 
-abbrev pub last-writes : State → ℕ → List ℕ → ℕ → List Write
+abbrev pub last-writes : State → (left : ℕ) (log : List ℕ) (at : ℕ) → List Write
 last-writes st left log at = writes-of (last-records st left) (drop at log)
 
 -- they lie inside the image, and their bytes inside the buffer
@@ -40,15 +40,15 @@ kept-records C [] rows = 0
 kept-records C (r ∷ rs) rows =
     set-bits (λ c. getD (getD rows 0 []) c false) (addr-to-chunk C (r .addr)) (touched C (r .addr) (r .len)) + kept-records C rs (drop 1 rows)
 
--- the pieces that a table keeps of a state's log, over an image of L bytes
-abbrev pub kept-by-table : (C L : ℕ) (st : State) (table : List ℕ) → ℕ
-kept-by-table C L st table = kept-records C (log-records st) (rows-at (size-to-chunks C L) (st .count) table 0)
+-- the pieces that the rows from `row` on keep of a state's log, over an image of L bytes
+abbrev pub kept-by-table : (C L : ℕ) → State → (table : List ℕ) (row : ℕ) → ℕ
+kept-by-table C L st table row = kept-records C (log-records st) (rows-at (size-to-chunks C L) (st .count) table row)
 
--- what the count asks of a sound state and a right table
-pub record KeptFrom (L : ℕ) (st : State) (table-length : ℕ) : Type 0 where
+-- what the count asks of a sound state, and of the place of its rows
+pub record KeptFrom (C L : ℕ) (st : State) (table-length row : ℕ) : Type 0 where
   pub sized : length (st .records) ≡ writes-limit
   pub short : L ≤ image-limit
   pub few : st .count ≤ writes-limit
   pub inside : records-inside L (log-records st) ≡ true
   pub room : together (log-records st) ≤ log-limit
-  pub right : st .count * row-bytes (size-to-chunks const-persistence-chunk-size L) ≤ table-length
+  pub right : row + st .count * row-bytes (size-to-chunks C L) ≤ table-length

@@ -1,12 +1,12 @@
--- What the state and the log buffer mean: the outstanding writes, packed oldest first. Document 01, "Region, chunks, log".
+-- What the state means: the records of the outstanding writes, whose bytes lie in the log buffer, packed oldest first. Document 01, "Region, chunks, log".
 use Prim.Native.Nat.{ℕ, _+_}
 use mathlib.Core.Bool.{Bool, true, _&&_}
 use mathlib.Core.List.{List, [], _∷_}
-use lib.Dec.{leb, eqb}
-use lib.ListN.{take, drop, set}
+use lib.Dec.{leb, ltb, eqb}
+use lib.ListN.{length, take, drop, set, replicate}
 use Rattle.region.specs.Limits.{image-limit, writes-limit, log-limit}
-use Rattle.region.specs.Pmemspec.{update-bytes}
-use Rattle.pieces.specs.AsyncSpec as async
+use Rattle.region.specs.Answer.{unless}
+use Rattle.pieces.specs.AsyncSpec.{Write}
 use Rattle.records.specs.declared.state.Record.{Record}
 use Rattle.records.specs.declared.state.State.{State}
 
@@ -20,13 +20,9 @@ together [] = 0
 together (r ∷ rs) = r .len + together rs
 
 -- each record with its bytes, which follow those of the records before it
-unfoldable pub writes-of : List Record → List ℕ → List async.Write
+unfoldable pub writes-of : List Record → List ℕ → List Write
 writes-of [] log = []
 writes-of (r ∷ rs) log = record { addr = r .addr; bytes = take (r .len) log } ∷ writes-of rs (drop (r .len) log)
-
--- what the lent memory stands for: the image at the last flush, and the outstanding writes
-abbrev pub view : List ℕ → State → List ℕ → async.AsyncView
-view image st log = record { state-at-last-flush = image; outstanding-writes = writes-of (log-records st) log }
 
 -- every record lies inside an image of L bytes, in whole numbers
 unfoldable pub records-inside : ℕ → List Record → Bool
@@ -34,9 +30,21 @@ records-inside L [] = true
 records-inside L (r ∷ rs) = leb (r .addr + r .len) L && records-inside L rs
 
 -- refusal 1, as far as every call meets it: "L over 4096; a record outside L or over the log's budgets; log buffer not 1024 bytes"
-unfoldable pub sound : ℕ → State → ℕ → Bool
-sound L st log-length =
+unfoldable pub sound-for : (L : ℕ) → State → (log-length : ℕ) → Bool
+sound-for L st log-length =
     leb L image-limit && eqb log-length log-limit && leb (st .count) writes-limit && records-inside L (log-records st) && leb (together (log-records st)) log-limit
+
+-- the record of a write
+abbrev pub record-of : Write → Record
+record-of w = record { addr = w .addr; len = length (w .bytes) }
+
+-- 2, 3 and 4 for one record more
+abbrev pub room-number : (L : ℕ) → State → Record → ℕ
+room-number L st r =
+    unless (leb (r .addr + r .len) L) 2
+    (unless (ltb (st .count) writes-limit) 3
+    (unless (leb (together (log-records st) + r .len) log-limit) 4
+    0))
 
 -- what stands where there is no record
 abbrev pub no-record : Record
@@ -47,13 +55,13 @@ abbrev pub with-record : State → Record → State
 with-record st r = record { count = st .count; records = set (st .records) (st .count) r }
 
 -- the state with one record more, at index count
-abbrev pub appended : State → ℕ → ℕ → State
-appended st addr len = record { count = st .count + 1; records = set (st .records) (st .count) (record { addr = addr; len = len }) }
-
--- the log buffer with the new bytes behind the outstanding ones
-abbrev pub log-with : State → List ℕ → List ℕ → List ℕ
-log-with st log bytes = update-bytes log (together (log-records st)) bytes
+abbrev pub appended : State → Record → State
+appended st r = record { count = st .count + 1; records = set (st .records) (st .count) r }
 
 -- the state with an empty log: "old records and log bytes stay"
 abbrev pub emptied : State → State
 emptied st = record { count = 0; records = st .records }
+
+-- "an empty log, its records all zero"
+abbrev pub fresh : State
+fresh = record { count = 0; records = replicate writes-limit no-record }

@@ -4,4 +4,5 @@
 // assumed.
 pub mod log;
 pub mod record_list;
+pub mod room;
 pub mod state;

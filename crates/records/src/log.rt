@@ -57,20 +57,20 @@ pub fn replay_selected(
     replay_selected(state, log, rows, width, work, end, row + width, left - 1);
 }
 
-// The pieces that a right table keeps: the set bits among each write's touched chunks, summed.
-pub fn kept(state: State, size: usize, rows: &[u8]) -> usize
-    requires { ⌜ KeptFrom size state (length (now rows)) ⌝ }
-    ensures { λ r. ⌜ r ≡ kept-by-table const-persistence-chunk-size size state (now (rows .entry)) ⌝ }
+// The pieces that the rows from `row` on keep: the set bits among each write's touched chunks, summed.
+pub fn kept(state: State, size: usize, rows: &[u8], row: usize) -> usize
+    requires { ⌜ KeptFrom const-persistence-chunk-size size state (length (now rows)) row ⌝ }
+    ensures { λ r. ⌜ r ≡ kept-by-table const-persistence-chunk-size size state (now (rows .entry)) row ⌝ }
 {
     let width = row_bytes(size_to_chunks(size));
     let count = state.count;
     let mut sum = 0;
-    let mut row = 0;
+    let mut place = row;
     let mut i = 0;
     while i < count {
         let r = record_at(state, i);
-        sum += set_bits(rows, row, r.addr / CHUNK_SIZE, touched(r.addr, r.len));
-        row += width;
+        sum += set_bits(rows, place, r.addr / CHUNK_SIZE, touched(r.addr, r.len));
+        place += width;
         i += 1;
     }
     sum

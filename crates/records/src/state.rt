@@ -1,4 +1,4 @@
-// The state: the outstanding writes' records. Their bytes lie in the log buffer, packed oldest
+// The state: the outstanding writes' records, what it is at the start, and how a call changes it. Their bytes lie in the log buffer, packed oldest
 // first, so that where a record's bytes begin is the sum of the lengths before it.
 use region::IMAGE_LIMIT;
 use region::LOG_LIMIT;
@@ -9,7 +9,7 @@ ghost use Prim.Native.Nat.{_+_, _<_};
 ghost use lib.Dec.{leb};
 ghost use lib.ListN.{length};
 ghost use Rattle.region.specs.Limits.{writes-limit};
-ghost use Rattle.records.specs.State.{log-records, together, sound};
+ghost use Rattle.records.specs.State.{log-records, together, sound-for, emptied, fresh};
 
 pub struct Record {
     pub addr: usize,
@@ -39,7 +39,7 @@ pub fn within(addr: usize, len: usize, size: usize) -> bool
 
 // Tests what every call is handed: the image's length, the state and the log buffer's length.
 pub fn checked(state: State, image: usize, log: usize) -> Outstanding
-    ensures { λ r. ⌜ (r ≡ cond (sound image state log) (Outstanding.Bytes (together (log-records state))) Outstanding.Unsound) × (length (state .records) ≡ writes-limit) ⌝ }
+    ensures { λ r. ⌜ (r ≡ cond (sound-for image state log) (Outstanding.Bytes (together (log-records state))) Outstanding.Unsound) × (length (state .records) ≡ writes-limit) ⌝ }
 {
     if IMAGE_LIMIT < image {
         return Outstanding::Unsound;
@@ -65,4 +65,22 @@ pub fn checked(state: State, image: usize, log: usize) -> Outstanding
         i += 1;
     }
     Outstanding::Bytes(used)
+}
+
+// The state with an empty log, its records all zero.
+pub fn fresh() -> State
+    ensures { λ r. ⌜ r ≡ fresh ⌝ }
+{
+    let none = Record { addr: 0, len: 0 };
+    let records = [none; WRITES_LIMIT];
+    State { count: 0, records }
+}
+
+// The state with an empty log; its old records stay.
+pub fn emptied(state: State) -> State
+    ensures { λ r. ⌜ r ≡ emptied state ⌝ }
+{
+    let mut next = state;
+    next.count = 0;
+    next
 }

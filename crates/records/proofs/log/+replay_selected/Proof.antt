@@ -81,7 +81,7 @@ module _ (t : ℕ) where
       let a = start found .args in
       let put = c .before .before .before .before .before .before .lay-selected in
       c .before .before .replay-selected .ensures
-      ∙ selected-step (stepped found) (a .log .now) (a .work .now) (a .rows .now) (a .row) (a .width) (some found) (start found .pre .1 .1 .0) (put .kept .0) (put .ensures)
+      ∙ selected-step (stepped found) (a .log .now) (a .work .now) const-persistence-chunk-size (a .rows .now) (a .row) (a .width) (some found) (start found .pre .1 .1 .0) (put .kept .0) (put .ensures)
 
 pub +replay-selected-spec : {M : Type 1} → statement M
 +replay-selected-spec = close μ λ t. lts.spec (claims t) (at-measure t) own.Post

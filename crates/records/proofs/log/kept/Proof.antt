@@ -10,10 +10,10 @@ use Rattle.records.proofs.log.kept.Statement.{statement}
 use Rattle.records.proofs.log.kept.Tie as tie
 
 abbrev Inv-loop : tie.InvT-loop
-Inv-loop state size rows width count sum₀ row₀ i₀ sum row i = Counting size state rows sum row i
+Inv-loop state size rows row width count sum₀ place₀ i₀ sum place i = Counting size state rows row sum place i
 
 abbrev μ-loop : tie.MeasureT-loop
-μ-loop state size rows width count sum₀ row₀ i₀ sum row i = count - i
+μ-loop state size rows row width count sum₀ place₀ i₀ sum place i = count - i
 
 -- the places: the loop's head and the entry, from where a record is found, and from where its set bits are counted
 abbrev head : tie.After-record-at Inv-loop μ-loop → tie.At-loop Inv-loop μ-loop
@@ -30,17 +30,17 @@ width-is c = c .before .row-bytes .ensures ∙ ap row-bytes (c .before .before .
 
 -- what the record that is found brings
 turn-here : (c : tie.After-record-at Inv-loop μ-loop) → let a = start (head c) .args in let l = head c .loop in
-    Turn (a .size) (a .state) (a .rows .now) (l .sum) (l .row) (l .i) (c .record-at .result)
+    Turn (a .size) (a .state) (a .rows .now) (a .row) (l .sum) (l .place) (l .i) (c .record-at .result)
 turn-here c =
     let a = start (head c) .args in
-    turn (a .size) (a .state) (a .rows .now) (start (head c) .pre) (head c .loop .inv) (c .before .loop-test .taken) (c .record-at .ensures)
+    turn (a .size) (a .state) (a .rows .now) (a .row) (start (head c) .pre) (head c .loop .inv) (c .before .loop-test .taken) (c .record-at .ensures)
 
 -- a turn adds the set bits among the chunks that the record's write touches
 counted : (c : tie.After-set-bits Inv-loop μ-loop) → let h = head (found c) in let a = start h .args in
-    Counting (a .size) (a .state) (a .rows .now) (h .loop .sum + c .set-bits .result) (h .loop .row + h .before .row-bytes .result) (h .loop .i + 1)
+    Counting (a .size) (a .state) (a .rows .now) (a .row) (h .loop .sum + c .set-bits .result) (h .loop .place + h .before .row-bytes .result) (h .loop .i + 1)
 counted c =
     let h = head (found c) in
-    let bits = row-bit (start h .args .rows .now) (h .loop .row) in
+    let bits = row-bit (start h .args .rows .now) (h .loop .place) in
     let r = found c .record-at .result in
     turn-here (found c) .after (c .set-bits .result) (h .before .row-bytes .result)
     (c .set-bits .ensures ∙ ap (set-bits bits (r .addr / const-persistence-chunk-size)) (c .before .touched .ensures))
@@ -63,7 +63,7 @@ kept-spec =
     μ-loop
     (λ c κs. tt)
     (λ c κs. tt)
-    (λ c. let start = c .before .before .before in count-starts (start .args .size) (start .args .state) (start .args .rows .now) (start .pre))
+    (λ c. let start = c .before .before .before in let a = start .args in count-starts (a .size) (a .state) (a .rows .now) (a .row) (start .pre))
     (λ c κs. tt)
     (λ c κs. omega (arith, turn-here (c .before) .lies, start (head (c .before)) .pre .short))
     set-bits-requires
@@ -72,4 +72,4 @@ kept-spec =
     (λ c. omega arith)
     (λ c. omega arith)
     counted
-    (λ c. let a = start (c .before) .args in count-ends (a .size) (a .state) (a .rows .now) (omega arith) (c .before .loop .inv)))
+    (λ c. let a = start (c .before) .args in count-ends (a .size) (a .state) (a .rows .now) (a .row) (omega arith) (c .before .loop .inv)))

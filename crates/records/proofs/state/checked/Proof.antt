@@ -11,10 +11,10 @@ use lib.ListN.{length, drop, length-map}
 use borrow.Author.Tests.{not-true, not-false}
 use Rattle.region.specs.Limits.{writes-limit, log-limit}
 use Rattle.region.proofs.Booleans.{cond-when, cond-unless, and-when, and-unless}
-use Rattle.records.specs.State.{log-records, together, records-inside, sound}
+use Rattle.records.specs.State.{log-records, together, records-inside, sound-for}
 use Rattle.records.specs.declared.state.Record.{Record}
 use Rattle.records.specs.declared.state.Outstanding.the-variants.{Bytes, Unsound}
-use Rattle.records.proofs.Soundness.{Sound, facts-sound, facts-unsound}
+use Rattle.records.proofs.Soundness.{SoundFor, facts-sound, facts-unsound}
 use Rattle.records.proofs.Records.{next, rest, together-more, inside-more, records-none}
 use Rattle.records.proofs.state.checked.Statement.{statement}
 use Rattle.records.proofs.state.checked.Tie as tie
@@ -40,8 +40,8 @@ few : (c : tie.In-loop Inv-loop μ-loop) → let st = start (c .before) .args .t
 few c = omega (arith, c .before .before .if3 .left, length-is (start (c .before)))
 
 -- the answer where one of the facts fails
-unsound : (c : tie.Start Inv-loop μ-loop) → let a = c .args in (Sound (a .image) (a .t1) (a .log) → ⊥)
-    → (Unsound ≡ cond (sound (a .image) (a .t1) (a .log)) (Bytes (together (log-records (a .t1)))) Unsound) × (length (a .t1 .records) ≡ writes-limit)
+unsound : (c : tie.Start Inv-loop μ-loop) → let a = c .args in (SoundFor (a .image) (a .t1) (a .log) → ⊥)
+    → (Unsound ≡ cond (sound-for (a .image) (a .t1) (a .log)) (Bytes (together (log-records (a .t1)))) Unsound) × (length (a .t1 .records) ≡ writes-limit)
 unsound c n =
     let a = c .args in
     (sym (cond-unless _ (Bytes (together (log-records (a .t1)))) Unsound (facts-unsound (a .image) (a .t1) (a .log) n)), length-is c)
@@ -89,7 +89,7 @@ all-counted c =
     let st = a .t1 in
     let none : drop (l .i) (log-records st) ≡ [] = records-none st (l .i) (omega arith) in
     let all : l .used ≡ together (log-records st) = sym (add-zero (l .used)) ∙ ap (λ (rs : List Record). l .used + together rs) (sym none) ∙ l .inv .1 in
-    let s : Sound (a .image) st (a .log) = record {
+    let s : SoundFor (a .image) st (a .log) = record {
       short = passed .before .before .if1 .left;
       buffer = passed .before .if2 .left;
       few = passed .if3 .left;

@@ -1,10 +1,10 @@
--- `writelog::write::recorded` meets its contract: the state with the record at index count, and one more counted. Assumes nothing.
+-- `records::room::recorded` meets its contract: the state with the record at index count, and one more counted. Assumes nothing.
 use Prim.Native.Nat.{_+_}
 use mathlib.Core.Path.{ap}
 use borrow.Author.Needs.{needs}
 use Rattle.records.specs.declared.state.State.{State}
-use Rattle.writelog.proofs.write.recorded.Statement.{statement}
-use Rattle.writelog.proofs.write.recorded.Tie as tie
+use Rattle.records.proofs.room.recorded.Statement.{statement}
+use Rattle.records.proofs.room.recorded.Tie as tie
 
 returns : tie.Need-returns
 returns c =
