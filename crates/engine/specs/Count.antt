@@ -25,6 +25,6 @@ pub record Countable (st : State) : Type 0 where
   pub room : together (log-records st) ≤ log-limit
 
 -- the last `left` writes replayed over an image by the chunks that choice number m keeps
-abbrev pub replayed-by-choice : (C : ℕ) (image : List ℕ) (st : State) (left : ℕ) (log : List ℕ) (at m : ℕ) → List ℕ
+abbrev pub replayed-by-choice : (C : ℕ) (image : List ℕ) → State → (left : ℕ) (log : List ℕ) (at m : ℕ) → List ℕ
 replayed-by-choice C image st left log at m =
     flush-writes-selective C image (last-writes st left log at) (rows-of C (size-to-chunks C (length image)) (last-writes st left log at) m)

@@ -6,7 +6,8 @@ use sheet::judge;
 ghost use mathlib.Core.Path.{_≡_};
 ghost use lib.ListN.{length};
 ghost use Rattle.sheet.specs.Sheet.{allows};
-ghost use Rattle.records.specs.State.{view};
+ghost use Rattle.pieces.specs.AsyncSpec.{write-of};
+ghost use Rattle.records.specs.Desk.{desk};
 ghost use Rattle.engine.specs.Search.{Ready, Searches};
 
 pub enum Outcome {
@@ -37,8 +38,8 @@ pub fn search(
     bytes: &[u8],
     points: usize,
 ) -> Outcome
-    requires { ⌜ Ready (length (now image)) state (length (now log)) (length (now work)) addr (length (now bytes)) points ⌝ }
-    ensures { λ r. ⌜ Searches (view (now (image .entry)) state (now (log .entry))) (now (sheet .entry)) addr (now (bytes .entry)) r (now (work .exit)) ⌝ }
+    requires { ⌜ Ready (desk (now image) state (now log)) (length (now work)) (write-of addr (now bytes)) points ⌝ }
+    ensures { λ r. ⌜ Searches (desk (now (image .entry)) state (now (log .entry))) (write-of addr (now (bytes .entry))) (now (sheet .entry)) r (now (work .exit)) ⌝ }
 {
     let last = (1 << points) - 1;
     let mut m = 0;

@@ -8,13 +8,12 @@ ghost use mathlib.Core.Path.{_≡_};
 ghost use Prim.Native.Nat.{_+_, _≤_};
 ghost use lib.ListN.{length};
 ghost use Rattle.region.specs.Limits.{const-persistence-chunk-size, points-limit};
-ghost use Rattle.pieces.specs.AsyncSpec.{write};
+ghost use Rattle.pieces.specs.AsyncSpec.{write-of};
 ghost use Rattle.pieces.specs.Choice.{touched};
-ghost use Rattle.cuts.specs.Number.{choice-image};
-ghost use Rattle.records.specs.State.{view};
+ghost use Rattle.records.specs.Desk.{desk};
 ghost use Rattle.records.specs.Log.{last-records, Remaining};
 ghost use Rattle.engine.specs.Count.{record-points, replayed-by-choice};
-ghost use Rattle.engine.specs.Search.{Ready};
+ghost use Rattle.engine.specs.Search.{Ready, trial-image};
 
 // The last `left` writes, whose bytes begin at `at`, laid over `work` by the chunks that m keeps,
 // oldest write first, one write falling away at each step: its points are m's lowest bits.
@@ -44,8 +43,8 @@ pub fn trial(
     points: usize,
     m: usize,
 )
-    requires { ⌜ Ready (length (now image)) state (length (now log)) (length (now work)) addr (length (now bytes)) points ⌝ }
-    ensures { λ _. ⌜ now (work .exit) ≡ choice-image const-persistence-chunk-size (write (view (now (image .entry)) state (now (log .entry))) addr (now (bytes .entry))) m ⌝ }
+    requires { ⌜ Ready (desk (now image) state (now log)) (length (now work)) (write-of addr (now bytes)) points ⌝ }
+    ensures { λ _. ⌜ now (work .exit) ≡ trial-image (desk (now (image .entry)) state (now (log .entry))) (write-of addr (now (bytes .entry))) m ⌝ }
 {
     lay(work, 0, image);
     replay_chosen(state, log, work, 0, m, state.count);

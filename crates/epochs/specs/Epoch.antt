@@ -27,20 +27,20 @@ abbrev pub header-right : List ℕ → ℕ → Bool
 header-right tape start = ltb start (length tape) && (flush-foretold tape start || eqb (header tape start) cut-header)
 
 -- "row i follows the header and the i rows before it": where row n lies, and where n rows end
-abbrev pub row-place : ℕ → ℕ → ℕ → ℕ
+abbrev pub row-place : (K start n : ℕ) → ℕ
 row-place K start n = start + 1 + n * row-bytes K
 
 -- refusal 10 for an epoch of n rows
-abbrev pub epoch-there : ℕ → ℕ → List ℕ → ℕ → Bool
+abbrev pub epoch-there : (K n : ℕ) (tape : List ℕ) (start : ℕ) → Bool
 epoch-there K n tape start = header-right tape start && leb (row-place K start n) (length tape)
 
 -- 10, and 9 for a filling bit in any of the rows
-unfoldable pub epoch-number : ℕ → ℕ → List ℕ → ℕ → ℕ
+unfoldable pub epoch-number : (K n : ℕ) (tape : List ℕ) (start : ℕ) → ℕ
 epoch-number K n tape start =
     unless (epoch-there K n tape start) 10
     (unless (rows-filled K n tape (start + 1)) 9
     0)
 
 -- the epoch's first n rows
-abbrev pub epoch-rows : ℕ → ℕ → List ℕ → ℕ → List (List Bool)
+abbrev pub epoch-rows : (K n : ℕ) (tape : List ℕ) (start : ℕ) → List (List Bool)
 epoch-rows K n tape start = rows-at K n tape (start + 1)

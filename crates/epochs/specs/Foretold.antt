@@ -5,19 +5,17 @@ use mathlib.Core.List.{List}
 use lib.ListN.{length}
 use Rattle.region.specs.View.{PersistentMemoryRegionView}
 use Rattle.pieces.specs.AsyncSpec.{AsyncView, len, size-to-chunks}
-use Rattle.region.specs.Limits.{const-persistence-chunk-size}
 use Rattle.cuts.specs.Prophecy.{prophecy}
-use Rattle.records.specs.State.{view}
-use Rattle.records.specs.declared.state.State.{State}
+use Rattle.records.specs.Desk.{Desk, chunk-size, view}
 use Rattle.epochs.specs.Epoch.{flush-foretold, epoch-rows}
 
-abbrev pub foretold : ℕ → List ℕ → ℕ → AsyncView → PersistentMemoryRegionView
+abbrev pub foretold : (C : ℕ) (tape : List ℕ) (start : ℕ) → AsyncView → PersistentMemoryRegionView
 foretold C tape start v =
     prophecy C (flush-foretold tape start) v (epoch-rows (size-to-chunks C (len v)) (length (v .outstanding-writes)) tape start)
 
-abbrev pub predicted-image : ℕ → List ℕ → ℕ → AsyncView → List ℕ
+abbrev pub predicted-image : (C : ℕ) (tape : List ℕ) (start : ℕ) → AsyncView → List ℕ
 predicted-image C tape start v = (foretold C tape start v) .durable-state
 
--- the image that the tape predicts for this log
-abbrev pub predicted-now : List ℕ → State → List ℕ → List ℕ → ℕ → List ℕ
-predicted-now image st log tape start = predicted-image const-persistence-chunk-size tape start (view image st log)
+-- the image that the tape predicts for a desk's log
+abbrev pub predicted-now : Desk → (tape : List ℕ) (start : ℕ) → List ℕ
+predicted-now d tape start = predicted-image (chunk-size d) tape start (view d)

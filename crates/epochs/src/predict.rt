@@ -8,6 +8,7 @@ use records::state::State;
 use region::chunks::size_to_chunks;
 ghost use mathlib.Core.Path.{_≡_};
 ghost use lib.ListN.{length};
+ghost use Rattle.records.specs.Desk.{desk};
 ghost use Rattle.epochs.specs.Foretold.{predicted-now};
 ghost use Rattle.epochs.specs.Predictable.{Predictable};
 
@@ -19,8 +20,8 @@ pub fn predict(
     start: usize,
     predicted: &mut [u8],
 )
-    requires { ⌜ Predictable (length (now image)) state (length (now log)) (now tape) start (length (now predicted)) ⌝ }
-    ensures { λ _. ⌜ now (predicted .exit) ≡ predicted-now (now (image .entry)) state (now (log .entry)) (now (tape .entry)) start ⌝ }
+    requires { ⌜ Predictable (desk (now image) state (now log)) (now tape) start (length (now predicted)) ⌝ }
+    ensures { λ _. ⌜ now (predicted .exit) ≡ predicted-now (desk (now (image .entry)) state (now (log .entry))) (now (tape .entry)) start ⌝ }
 {
     lay(predicted, 0, image);
     if flush_foretold(tape, start) {

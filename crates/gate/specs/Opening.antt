@@ -5,25 +5,23 @@ use mathlib.Core.Path.{_≡_}
 use mathlib.Core.Bool.{_&&_}
 use mathlib.Core.List.{List}
 use lib.Dec.{leb, eqb}
-use lib.ListN.{length, replicate}
-use Rattle.region.specs.Limits.{image-limit, writes-limit, log-limit}
+use lib.ListN.{length}
+use Rattle.region.specs.Limits.{image-limit, log-limit}
 use Rattle.region.specs.Answer.{answer-number, unless, if-done}
 use Rattle.region.specs.declared.Answer.{Answer}
 use Rattle.sheet.specs.Sheet.{well-formed, allows}
-use Rattle.records.specs.declared.state.State.{State}
+use Rattle.records.specs.Desk.{Desk, opened-desk}
 
-abbrev pub fresh : State
-fresh = record { count = 0; records = replicate writes-limit (record { addr = 0; len = 0 }) }
+module _ (d : Desk) (sheet : List ℕ) where
+  -- "Opening compares the image with itself", as a later edition's rule of two images asks
+  unfoldable pub open-number : ℕ
+  open-number =
+      unless (leb (length (d .image)) image-limit && eqb (length (d .log)) log-limit) 1
+      (unless (well-formed sheet) 5
+      (unless (allows sheet (d .image)) 6
+      0))
 
--- "Opening compares the image with itself", as a later edition's rule of two images asks
-unfoldable pub open-number : List ℕ → List ℕ → List ℕ → ℕ
-open-number image log sheet =
-    unless (leb (length image) image-limit && eqb (length log) log-limit) 1
-    (unless (well-formed sheet) 5
-    (unless (allows sheet image) 6
-    0))
-
--- what opening promises: its number, and the state afterwards
-pub record Opens (image : List ℕ) (st : State) (log sheet : List ℕ) (answer : Answer) (st′ : State) : Type 0 where
-  pub answers : answer-number answer ≡ open-number image log sheet
-  pub state-after : st′ ≡ if-done (open-number image log sheet) fresh st
+  -- what opening promises: its number, and the desk afterwards
+  pub record Opens (answer : Answer) (d′ : Desk) : Type 0 where
+    pub answers : answer-number answer ≡ open-number
+    pub leaves : d′ ≡ if-done open-number (opened-desk d) d

@@ -1,11 +1,13 @@
 // The gate.
 use crate::Verdict;
 use crate::judge::decide;
+use records::room::recorded;
 use records::state::Outstanding;
 use records::state::State;
 use records::state::checked;
 use region::Refusal;
-use writelog::write::recorded;
+ghost use Rattle.pieces.specs.AsyncSpec.{write-of};
+ghost use Rattle.records.specs.Desk.{desk};
 ghost use Rattle.gate.specs.Judgement.{Gates};
 
 pub struct Gated {
@@ -23,7 +25,7 @@ pub fn gate(
     addr: usize,
     bytes: &[u8],
 ) -> Gated
-    ensures { λ r. ⌜ Gates (now (image .entry)) state (now (log .entry)) (now (sheet .entry)) (now (work .entry)) addr (now (bytes .entry)) (r .verdict) (r .state) (now (log .exit)) (now (work .exit)) ⌝ }
+    ensures { λ r. ⌜ Gates (desk (now (image .entry)) state (now (log .entry))) (now (sheet .entry)) (now (work .entry)) (write-of addr (now (bytes .entry))) (r .verdict) (desk (now (image .entry)) (r .state) (now (log .exit))) (now (work .exit)) ⌝ }
 {
     let Outstanding::Bytes(used) = checked(state, image.len(), log.len()) else {
         return Gated {

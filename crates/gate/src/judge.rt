@@ -4,17 +4,20 @@ use engine::count::log_points;
 use engine::search::Outcome;
 use engine::search::search;
 use pieces::points::touched;
+use records::room::room;
 use records::state::Outstanding;
+use records::state::Record;
 use records::state::State;
 use records::state::checked;
 use region::Answer;
 use region::POINTS_LIMIT;
 use region::Refusal;
 use sheet::Judged;
-use writelog::write::room;
 ghost use mathlib.Core.Path.{_≡_};
 ghost use lib.ListN.{length};
 ghost use Rattle.sheet.specs.Sheet.{well-formed};
+ghost use Rattle.pieces.specs.AsyncSpec.{write-of};
+ghost use Rattle.records.specs.Desk.{desk};
 ghost use Rattle.gate.specs.Judgement.{Fitting, Checked, Weighs, Judges};
 
 // Is the sheet well-formed? That is so for any image or none.
@@ -38,8 +41,8 @@ fn weigh(
     addr: usize,
     bytes: &[u8],
 ) -> Verdict
-    requires { ⌜ Fitting (length (now image)) state (length (now log)) (length (now work)) addr (length (now bytes)) ⌝ }
-    ensures { λ r. ⌜ Weighs (now (image .entry)) state (now (log .entry)) (now (sheet .entry)) (now (work .entry)) addr (now (bytes .entry)) r (now (work .exit)) ⌝ }
+    requires { ⌜ Fitting (desk (now image) state (now log)) (length (now work)) (write-of addr (now bytes)) ⌝ }
+    ensures { λ r. ⌜ Weighs (desk (now (image .entry)) state (now (log .entry))) (now (sheet .entry)) (now (work .entry)) (write-of addr (now (bytes .entry))) r (now (work .exit)) ⌝ }
 {
     let n = log_points(state) + touched(addr, bytes.len());
     if POINTS_LIMIT < n {
@@ -62,8 +65,8 @@ pub(crate) fn decide(
     addr: usize,
     bytes: &[u8],
 ) -> Verdict
-    requires { ⌜ Checked (length (now image)) state (length (now log)) used ⌝ }
-    ensures { λ r. ⌜ Judges (now (image .entry)) state (now (log .entry)) (now (sheet .entry)) (now (work .entry)) addr (now (bytes .entry)) r (now (work .exit)) ⌝ }
+    requires { ⌜ Checked (desk (now image) state (now log)) used ⌝ }
+    ensures { λ r. ⌜ Judges (desk (now (image .entry)) state (now (log .entry))) (now (sheet .entry)) (now (work .entry)) (write-of addr (now (bytes .entry))) r (now (work .exit)) ⌝ }
 {
     if work.len() != image.len() {
         return Verdict::Refused(Refusal::BadState);
@@ -71,7 +74,11 @@ pub(crate) fn decide(
     if !formed(sheet, image) {
         return Verdict::Refused(Refusal::BadSheet);
     }
-    match room(image.len(), state, used, addr, bytes.len()) {
+    let r = Record {
+        addr,
+        len: bytes.len(),
+    };
+    match room(image.len(), state, used, r) {
         Answer::Refused(why) => Verdict::Refused(why),
         Answer::Done => weigh(state, image, log, sheet, work, addr, bytes),
     }
@@ -87,7 +94,7 @@ pub fn judge(
     addr: usize,
     bytes: &[u8],
 ) -> Verdict
-    ensures { λ r. ⌜ Judges (now (image .entry)) state (now (log .entry)) (now (sheet .entry)) (now (work .entry)) addr (now (bytes .entry)) r (now (work .exit)) ⌝ }
+    ensures { λ r. ⌜ Judges (desk (now (image .entry)) state (now (log .entry))) (now (sheet .entry)) (now (work .entry)) (write-of addr (now (bytes .entry))) r (now (work .exit)) ⌝ }
 {
     let Outstanding::Bytes(used) = checked(state, image.len(), log.len()) else {
         return Verdict::Refused(Refusal::BadState);

@@ -1,33 +1,23 @@
 // Opening.
-use records::state::Record;
 use records::state::State;
+use records::state::fresh;
 use region::Answer;
 use region::IMAGE_LIMIT;
 use region::LOG_LIMIT;
 use region::Refusal;
-use region::WRITES_LIMIT;
 use sheet::Judged;
-ghost use mathlib.Core.Path.{_≡_};
-ghost use Rattle.gate.specs.Opening.{fresh, Opens};
+ghost use Rattle.records.specs.Desk.{desk};
+ghost use Rattle.gate.specs.Opening.{Opens};
 
 pub struct Opened {
     pub answer: Answer,
     pub state: State,
 }
 
-// The state with an empty log, its records all zero.
-pub fn fresh() -> State
-    ensures { λ r. ⌜ r ≡ fresh ⌝ }
-{
-    let none = Record { addr: 0, len: 0 };
-    let records = [none; WRITES_LIMIT];
-    State { count: 0, records }
-}
-
 // Judges the image and starts an empty log. The state that is handed in is not looked at: after a
 // power loss it holds anything.
 pub fn open(state: State, image: &[u8], log: &[u8], sheet: &[u8]) -> Opened
-    ensures { λ r. ⌜ Opens (now (image .entry)) state (now (log .entry)) (now (sheet .entry)) (r .answer) (r .state) ⌝ }
+    ensures { λ r. ⌜ Opens (desk (now (image .entry)) state (now (log .entry))) (now (sheet .entry)) (r .answer) (desk (now (image .entry)) (r .state) (now (log .entry))) ⌝ }
 {
     if IMAGE_LIMIT < image.len() {
         return Opened {

@@ -7,19 +7,28 @@ use pieces::rows::row_bytes;
 use records::state::Outstanding;
 use records::state::State;
 use records::state::checked;
+use records::state::emptied;
 use region::Answer;
 use region::Refusal;
 use region::chunks::size_to_chunks;
 ghost use mathlib.Core.Path.{_≡_};
 ghost use lib.ListN.{length};
 ghost use Rattle.region.specs.Answer.{answer-number};
-ghost use Rattle.region.specs.Limits.{writes-limit};
-ghost use Rattle.epochs.specs.Foretold.{predicted-now};
-ghost use Rattle.tape.specs.Ending.{ending-number, next-start};
+ghost use Rattle.region.specs.Limits.{writes-limit, const-persistence-chunk-size};
+ghost use Rattle.records.specs.Desk.{desk};
 ghost use Rattle.epochs.specs.Predictable.{Predictable};
+ghost use Rattle.tape.specs.Memory.{by-tape};
+ghost use Rattle.tape.specs.Ending.{ending-number, Settles, Ends};
+
+// Document 01's number, the state, and where the next epoch starts.
+pub struct Ended {
+    pub answer: Answer,
+    pub state: State,
+    pub start: usize,
+}
 
 // May the epoch end so? Document 01's 1, 10, 9 and 11.
-pub fn ending(
+fn ending(
     state: State,
     size: usize,
     log: usize,
@@ -28,7 +37,7 @@ pub fn ending(
     predicted: usize,
     flushing: bool,
 ) -> Answer
-    ensures { λ r. ⌜ (answer-number r ≡ ending-number flushing size state log (now (tape .entry)) start predicted) × (length (state .records) ≡ writes-limit) ⌝ }
+    ensures { λ r. ⌜ (answer-number r ≡ ending-number flushing const-persistence-chunk-size size state log (now (tape .entry)) start predicted) × (length (state .records) ≡ writes-limit) ⌝ }
 {
     let Outstanding::Bytes(_) = checked(state, size, log) else {
         return Answer::Refused(Refusal::BadState);
@@ -49,7 +58,7 @@ pub fn ending(
 }
 
 // The predicted image becomes the image. Answers where the next epoch starts.
-pub fn ended(
+fn settle(
     state: State,
     image: &mut [u8],
     log: &[u8],
@@ -57,10 +66,48 @@ pub fn ended(
     start: usize,
     predicted: &mut [u8],
 ) -> usize
-    requires { ⌜ Predictable (length (now image)) state (length (now log)) (now tape) start (length (now predicted)) ⌝ }
-    ensures { λ r. ⌜ (r ≡ next-start (length (now (image .entry))) state start) × (now (image .exit) ≡ predicted-now (now (image .entry)) state (now (log .entry)) (now (tape .entry)) start) × (now (predicted .exit) ≡ predicted-now (now (image .entry)) state (now (log .entry)) (now (tape .entry)) start) ⌝ }
+    requires { ⌜ Predictable (desk (now image) state (now log)) (now tape) start (length (now predicted)) ⌝ }
+    ensures { λ r. ⌜ Settles (desk (now (image .entry)) state (now (log .entry))) (now (tape .entry)) start r (now (image .exit)) (now (predicted .exit)) ⌝ }
 {
     predict(state, image, log, tape, start, predicted);
     lay(image, 0, predicted);
     start + 1 + state.count * row_bytes(size_to_chunks(image.len()))
+}
+
+// Ends the epoch where the tape foretells this end, and empties the log.
+pub(crate) fn end_epoch(
+    state: State,
+    image: &mut [u8],
+    log: &[u8],
+    tape: &[u8],
+    start: usize,
+    predicted: &mut [u8],
+    flushing: bool,
+) -> Ended
+    ensures { λ r. ⌜ Ends flushing (by-tape (desk (now (image .entry)) state (now (log .entry))) start (now (predicted .entry))) (now (tape .entry)) (r .answer) (by-tape (desk (now (image .exit)) (r .state) (now (log .entry))) (r .start) (now (predicted .exit))) ⌝ }
+{
+    let answer = ending(
+        state,
+        image.len(),
+        log.len(),
+        tape,
+        start,
+        predicted.len(),
+        flushing,
+    );
+    match answer {
+        Answer::Done => {
+            let next = settle(state, image, log, tape, start, predicted);
+            Ended {
+                answer,
+                state: emptied(state),
+                start: next,
+            }
+        }
+        Answer::Refused(_) => Ended {
+            answer,
+            state,
+            start,
+        },
+    }
 }

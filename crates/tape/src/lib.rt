@@ -3,7 +3,7 @@
 // is there. Each call is total on any bytes and proved to answer and leave behind exactly what
 // specs/ says (document 01, "The tape", with the prophecy view of pmem_async_equiv_v.rs). Nothing is
 // assumed.
-mod ending;
+pub mod ending;
 pub mod tape_cut;
 pub mod tape_flush;
 pub mod tape_write;

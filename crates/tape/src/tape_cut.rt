@@ -1,11 +1,11 @@
 // The cut by tape.
-use crate::ending::ended;
-use crate::ending::ending;
+use crate::ending::end_epoch;
 use records::log::kept;
 use records::state::State;
 use region::Answer;
 use writelog::cut::CutAnswer;
-use writelog::flush::emptied;
+ghost use Rattle.records.specs.Desk.{desk};
+ghost use Rattle.tape.specs.Memory.{by-tape};
 ghost use Rattle.tape.specs.Cut.{TapeCuts};
 
 pub struct AfterTapeCut {
@@ -23,32 +23,24 @@ pub fn tape_cut(
     start: usize,
     predicted: &mut [u8],
 ) -> AfterTapeCut
-    ensures { λ r. ⌜ TapeCuts (now (image .entry)) state (now (log .entry)) (now (tape .entry)) start (now (predicted .entry)) (r .answer) (r .state) (r .start) (now (image .exit)) (now (predicted .exit)) ⌝ }
+    ensures { λ r. ⌜ TapeCuts (by-tape (desk (now (image .entry)) state (now (log .entry))) start (now (predicted .entry))) (now (tape .entry)) (r .answer) (by-tape (desk (now (image .exit)) (r .state) (now (log .entry))) (r .start) (now (predicted .exit))) ⌝ }
 {
-    let answer = ending(
-        state,
-        image.len(),
-        log.len(),
-        tape,
-        start,
-        predicted.len(),
-        false,
-    );
+    let ended = end_epoch(state, image, log, tape, start, predicted, false);
+    let answer = ended.answer;
     match answer {
         Answer::Done => {
             let rows = start + 1;
-            let pieces = kept(state, image.len(), &tape[rows..]);
-            let next = ended(state, image, log, tape, start, predicted);
+            let pieces = kept(state, image.len(), tape, rows);
             AfterTapeCut {
                 answer: CutAnswer::Kept(pieces),
-                state: emptied(state),
-                start: next,
+                state: ended.state,
+                start: ended.start,
             }
         }
         Answer::Refused(why) => AfterTapeCut {
             answer: CutAnswer::Refused(why),
-            state,
-            start,
+            state: ended.state,
+            start: ended.start,
         },
     }
 }

@@ -1,16 +1,10 @@
 // The flush by tape.
-use crate::ending::ended;
-use crate::ending::ending;
+use crate::ending::Ended;
+use crate::ending::end_epoch;
 use records::state::State;
-use region::Answer;
-use writelog::flush::emptied;
+ghost use Rattle.records.specs.Desk.{desk};
+ghost use Rattle.tape.specs.Memory.{by-tape};
 ghost use Rattle.tape.specs.Flush.{TapeFlushes};
-
-pub struct TapeFlushed {
-    pub answer: Answer,
-    pub state: State,
-    pub start: usize,
-}
 
 // Makes the read image the image, where the tape foretells it, and empties the log.
 pub fn tape_flush(
@@ -20,31 +14,8 @@ pub fn tape_flush(
     tape: &[u8],
     start: usize,
     predicted: &mut [u8],
-) -> TapeFlushed
-    ensures { λ r. ⌜ TapeFlushes (now (image .entry)) state (now (log .entry)) (now (tape .entry)) start (now (predicted .entry)) (r .answer) (r .state) (r .start) (now (image .exit)) (now (predicted .exit)) ⌝ }
+) -> Ended
+    ensures { λ r. ⌜ TapeFlushes (by-tape (desk (now (image .entry)) state (now (log .entry))) start (now (predicted .entry))) (now (tape .entry)) (r .answer) (by-tape (desk (now (image .exit)) (r .state) (now (log .entry))) (r .start) (now (predicted .exit))) ⌝ }
 {
-    let answer = ending(
-        state,
-        image.len(),
-        log.len(),
-        tape,
-        start,
-        predicted.len(),
-        true,
-    );
-    match answer {
-        Answer::Done => {
-            let next = ended(state, image, log, tape, start, predicted);
-            TapeFlushed {
-                answer,
-                state: emptied(state),
-                start: next,
-            }
-        }
-        Answer::Refused(_) => TapeFlushed {
-            answer,
-            state,
-            start,
-        },
-    }
+    end_epoch(state, image, log, tape, start, predicted, true)
 }

@@ -1,36 +1,32 @@
 // The write by tape.
 use epochs::epoch::epoch;
 use epochs::predict::predict;
+use records::room::recorded;
+use records::room::room;
 use records::state::Outstanding;
+use records::state::Record;
 use records::state::State;
 use records::state::checked;
 use region::Answer;
 use region::Refusal;
 use writelog::write::Written;
-use writelog::write::recorded;
-use writelog::write::room;
 ghost use mathlib.Core.Path.{_≡_};
 ghost use Prim.Native.Nat.{_≤_};
 ghost use Rattle.region.specs.Answer.{answer-number};
-ghost use Rattle.region.specs.Limits.{image-limit, log-limit};
+ghost use Rattle.region.specs.Limits.{image-limit, log-limit, const-persistence-chunk-size};
+ghost use Rattle.pieces.specs.AsyncSpec.{write-of};
 ghost use Rattle.records.specs.State.{log-records, together};
+ghost use Rattle.records.specs.Desk.{desk};
+ghost use Rattle.tape.specs.Memory.{by-tape};
 ghost use Rattle.tape.specs.Write.{tape-room-number, TapeWrites};
 
-// Is there room for a write of `len` bytes, and a right row for it on the tape? Document 01's 2, 3,
+// Is there room for a write with this record, and a right row for it on the tape? Document 01's 2, 3,
 // 4, 10 and 9.
-fn tape_room(
-    size: usize,
-    state: State,
-    used: usize,
-    tape: &[u8],
-    start: usize,
-    addr: usize,
-    len: usize,
-) -> Answer
+fn tape_room(size: usize, state: State, used: usize, tape: &[u8], start: usize, r: Record) -> Answer
     requires { ⌜ (used ≡ together (log-records state)) × (used ≤ log-limit) × (size ≤ image-limit) ⌝ }
-    ensures { λ r. ⌜ answer-number r ≡ tape-room-number size state (now (tape .entry)) start addr len ⌝ }
+    ensures { λ a. ⌜ answer-number a ≡ tape-room-number const-persistence-chunk-size size state (now (tape .entry)) start r ⌝ }
 {
-    let answer = room(size, state, used, addr, len);
+    let answer = room(size, state, used, r);
     match answer {
         Answer::Done => epoch(tape, start, state.count + 1, size),
         Answer::Refused(_) => answer,
@@ -49,7 +45,7 @@ pub fn tape_write(
     addr: usize,
     bytes: &[u8],
 ) -> Written
-    ensures { λ r. ⌜ TapeWrites (now (image .entry)) state (now (log .entry)) (now (tape .entry)) start (now (predicted .entry)) addr (now (bytes .entry)) (r .answer) (r .state) (now (log .exit)) (now (predicted .exit)) ⌝ }
+    ensures { λ r. ⌜ TapeWrites (by-tape (desk (now (image .entry)) state (now (log .entry))) start (now (predicted .entry))) (now (tape .entry)) (write-of addr (now (bytes .entry))) (r .answer) (by-tape (desk (now (image .entry)) (r .state) (now (log .exit))) start (now (predicted .exit))) ⌝ }
 {
     let Outstanding::Bytes(used) = checked(state, image.len(), log.len()) else {
         return Written {
@@ -63,7 +59,11 @@ pub fn tape_write(
             state,
         };
     }
-    let answer = tape_room(image.len(), state, used, tape, start, addr, bytes.len());
+    let r = Record {
+        addr,
+        len: bytes.len(),
+    };
+    let answer = tape_room(image.len(), state, used, tape, start, r);
     match answer {
         Answer::Done => {
             let next = recorded(state, log, used, addr, bytes);

@@ -3,14 +3,11 @@ use Prim.Native.Nat.{ℕ}
 use mathlib.Core.Path.{_≡_}
 use mathlib.Core.Bool.{Bool}
 use mathlib.Core.List.{List, [], _∷_}
-use lib.ListN.{length}
-use Rattle.region.specs.Limits.{const-persistence-chunk-size}
 use Rattle.region.specs.Answer.{Report, refusal-number, unless, if-done}
-use Rattle.pieces.specs.AsyncSpec.{size-to-chunks, flush-selective}
+use Rattle.pieces.specs.AsyncSpec.{flush-selective}
 use Rattle.pieces.specs.Rows.{rows-right, rows-at}
 use Rattle.pieces.specs.Kept.{kept}
-use Rattle.records.specs.State.{view, sound, emptied}
-use Rattle.records.specs.declared.state.State.{State}
+use Rattle.records.specs.Desk.{Desk, chunk-size, chunks, view, sound, settled-desk}
 use Rattle.writelog.specs.declared.cut.CutAnswer.{CutAnswer}
 use Rattle.writelog.specs.declared.cut.CutAnswer.the-variants.{Kept, Refused}
 
@@ -23,29 +20,25 @@ cut-report (Refused why) = record { number = refusal-number why; values = [] }
 abbrev pub cut-told : (kept number : ℕ) → Report
 cut-told kept number = record { number = number; values = if-done number (kept ∷ []) [] }
 
--- the chunks of an image
-abbrev pub chunks : List ℕ → ℕ
-chunks image = size-to-chunks const-persistence-chunk-size (length image)
+-- the rows that lie in these bytes from `at` on, one for each record of the desk's log: what a cut by them leaves, and the pieces that it keeps
+module _ (d : Desk) (bytes : List ℕ) (at : ℕ) where
+  abbrev pub desk-rows : List (List Bool)
+  desk-rows = rows-at (chunks d) (d .state .count) bytes at
 
--- the rows that a table has for this image and log
-abbrev pub table-rows : List ℕ → State → List ℕ → List (List Bool)
-table-rows image st table = rows-at (chunks image) (st .count) table 0
+  abbrev pub image-by-rows : List ℕ
+  image-by-rows = flush-selective (chunk-size d) (view d) desk-rows
 
-unfoldable pub cut-number : List ℕ → State → List ℕ → List ℕ → ℕ
-cut-number image st log table =
-    unless (sound (length image) st (length log)) 1
-    (unless (rows-right (chunks image) (st .count) table) 9
-    0)
+  abbrev pub kept-by-rows : ℕ
+  kept-by-rows = kept (chunk-size d) (view d .outstanding-writes) desk-rows
 
--- the image that the cut leaves, and the pieces that it keeps
-abbrev pub cut-image : List ℕ → State → List ℕ → List ℕ → List ℕ
-cut-image image st log table = flush-selective const-persistence-chunk-size (view image st log) (table-rows image st table)
+module _ (d : Desk) (table : List ℕ) where
+  unfoldable pub cut-number : ℕ
+  cut-number =
+      unless (sound d) 1
+      (unless (rows-right (chunks d) (d .state .count) table) 9
+      0)
 
-abbrev pub cut-kept : List ℕ → State → List ℕ → List ℕ → ℕ
-cut-kept image st log table = kept const-persistence-chunk-size (view image st log .outstanding-writes) (table-rows image st table)
-
--- what a cut promises: its number with the kept count, the state and the image afterwards
-pub record Cuts (image : List ℕ) (st : State) (log table : List ℕ) (answer : CutAnswer) (st′ : State) (image′ : List ℕ) : Type 0 where
-  pub answers : cut-report answer ≡ cut-told (cut-kept image st log table) (cut-number image st log table)
-  pub state-after : st′ ≡ if-done (cut-number image st log table) (emptied st) st
-  pub image-after : image′ ≡ if-done (cut-number image st log table) (cut-image image st log table) image
+  -- what a cut promises: its number with the kept count, and the desk afterwards
+  pub record Cuts (answer : CutAnswer) (d′ : Desk) : Type 0 where
+    pub answers : cut-report answer ≡ cut-told (kept-by-rows d table 0) cut-number
+    pub leaves : d′ ≡ if-done cut-number (settled-desk d (image-by-rows d table 0)) d

@@ -11,31 +11,32 @@ use Rattle.region.specs.Pmemspec.{extract-bytes}
 use Rattle.region.specs.Answer.{answer-number, unless, if-done}
 use Rattle.region.specs.declared.Answer.{Answer}
 use Rattle.pieces.specs.AsyncSpec.{readable}
-use Rattle.records.specs.State.{view, sound}
+use Rattle.records.specs.State.{sound-for}
+use Rattle.records.specs.Desk.{Desk, view}
 use Rattle.records.specs.declared.state.State.{State}
 
 -- the number goes by the lengths of image, log buffer and working image
-unfoldable pub asked-number : ℕ → State → ℕ → ℕ → ℕ → ℕ → ℕ
+unfoldable pub asked-number : (L : ℕ) → State → (log-length work-length addr len : ℕ) → ℕ
 asked-number L st log-length work-length addr len =
-    unless (sound L st log-length && eqb work-length L) 1
+    unless (sound-for L st log-length && eqb work-length L) 1
     (unless (leb (addr + len) L) 2
     0)
 
-abbrev pub read-number : List ℕ → State → List ℕ → List ℕ → ℕ → ℕ → ℕ
-read-number image st log work addr len = asked-number (length image) st (length log) (length work) addr len
+abbrev pub read-number : Desk → (work : List ℕ) (addr len : ℕ) → ℕ
+read-number d work addr len = asked-number (length (d .image)) (d .state) (length (d .log)) (length work) addr len
 
--- the working image afterwards: the read image
-abbrev pub read-work : List ℕ → State → List ℕ → List ℕ → ℕ → ℕ → List ℕ
-read-work image st log work addr len = if-done (read-number image st log work addr len) (readable (view image st log)) work
-
--- what the fill promises: its number, and every byte of the working image afterwards
-pub record Fills (image : List ℕ) (st : State) (log work : List ℕ) (addr len : ℕ) (answer : Answer) (work′ : List ℕ) : Type 0 where
-  pub answers : answer-number answer ≡ read-number image st log work addr len
-  pub work-after : work′ ≡ read-work image st log work addr len
+-- what the fill promises: its number, and every byte of the working image afterwards, which is the read image
+pub record Fills (d : Desk) (work : List ℕ) (addr len : ℕ) (answer : Answer) (work′ : List ℕ) : Type 0 where
+  pub answers : answer-number answer ≡ read-number d work addr len
+  pub fills : work′ ≡ if-done (read-number d work addr len) (readable (view d)) work
 
 -- What the read promises of the part that it hands back: it is the caller's own memory, the same block and that far into it, and holds the asked
 -- bytes of the read image. "On any refusal the part is empty"; it then stands at the working image's first byte.
-pub record HandsBack (image : List ℕ) (st : State) (log : List ℕ) (work : RefT (List ℕ)) (addr len : ℕ) (part : RefT (List ℕ)) : Type 0 where
-  pub block : ptr part .0 ≡ ptr work .0
-  pub offset : ptr part .1 ≡ ptr work .1 + if-done (read-number image st log (now work) addr len) addr 0
-  pub bytes : now part ≡ extract-bytes (readable (view image st log)) addr (if-done (read-number image st log (now work) addr len) len 0)
+module _ (d : Desk) (work : RefT (List ℕ)) (addr len : ℕ) where
+  abbrev number : ℕ
+  number = read-number d (now work) addr len
+
+  pub record HandsBack (part : RefT (List ℕ)) : Type 0 where
+    pub block : ptr part .0 ≡ ptr work .0
+    pub offset : ptr part .1 ≡ ptr work .1 + if-done number addr 0
+    pub bytes : now part ≡ extract-bytes (readable (view d)) addr (if-done number len 0)

@@ -1,5 +1,4 @@
 // The cut.
-use crate::flush::emptied;
 use pieces::rows::row_bytes;
 use pieces::rows::rows_filled;
 use records::log::kept;
@@ -7,6 +6,7 @@ use records::log::replay_selected;
 use records::state::Outstanding;
 use records::state::State;
 use records::state::checked;
+use records::state::emptied;
 use region::Refusal;
 use region::chunks::size_to_chunks;
 ghost use mathlib.Core.Path.{_≡_};
@@ -14,6 +14,7 @@ ghost use Prim.Native.Nat.{_≤_};
 ghost use Rattle.region.specs.Limits.{image-limit, writes-limit, const-persistence-chunk-size};
 ghost use Rattle.pieces.specs.AsyncSpec.{size-to-chunks};
 ghost use Rattle.pieces.specs.Rows.{rows-right};
+ghost use Rattle.records.specs.Desk.{desk};
 ghost use Rattle.writelog.specs.Cut.{Cuts};
 
 // The answer of a cut: how many pieces it kept, or why it refused.
@@ -41,7 +42,7 @@ fn rows_right(rows: &[u8], n: usize, size: usize) -> bool
 
 // Makes the replay with the rows the image, and empties the log.
 pub fn cut(state: State, image: &mut [u8], log: &[u8], rows: &[u8]) -> AfterCut
-    ensures { λ r. ⌜ Cuts (now (image .entry)) state (now (log .entry)) (now (rows .entry)) (r .answer) (r .state) (now (image .exit)) ⌝ }
+    ensures { λ r. ⌜ Cuts (desk (now (image .entry)) state (now (log .entry))) (now (rows .entry)) (r .answer) (desk (now (image .exit)) (r .state) (now (log .entry))) ⌝ }
 {
     let size = image.len();
     let Outstanding::Bytes(_) = checked(state, size, log.len()) else {
@@ -59,7 +60,7 @@ pub fn cut(state: State, image: &mut [u8], log: &[u8], rows: &[u8]) -> AfterCut
     let width = row_bytes(size_to_chunks(size));
     replay_selected(state, log, rows, width, image, 0, 0, state.count);
     AfterCut {
-        answer: CutAnswer::Kept(kept(state, size, rows)),
+        answer: CutAnswer::Kept(kept(state, size, rows, 0)),
         state: emptied(state),
     }
 }

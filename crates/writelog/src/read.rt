@@ -11,6 +11,7 @@ ghost use mathlib.Core.Path.{_≡_};
 ghost use lib.ListN.{length};
 ghost use Rattle.region.specs.Answer.{answer-number};
 ghost use Rattle.region.specs.Limits.{writes-limit};
+ghost use Rattle.records.specs.Desk.{desk};
 ghost use Rattle.writelog.specs.Read.{asked-number, read-number, Fills, HandsBack};
 
 // The answer for an image, a log buffer and a working image of these lengths.
@@ -38,7 +39,7 @@ pub fn read_number(
     addr: usize,
     len: usize,
 ) -> Answer
-    ensures { λ r. ⌜ answer-number r ≡ read-number (now (image .entry)) state (now (log .entry)) (now (work .entry)) addr len ⌝ }
+    ensures { λ r. ⌜ answer-number r ≡ read-number (desk (now (image .entry)) state (now (log .entry))) (now (work .entry)) addr len ⌝ }
 {
     asked(state, image.len(), log.len(), work.len(), addr, len)
 }
@@ -52,7 +53,7 @@ pub fn read_fill(
     addr: usize,
     len: usize,
 ) -> Answer
-    ensures { λ r. ⌜ Fills (now (image .entry)) state (now (log .entry)) (now (work .entry)) addr len r (now (work .exit)) ⌝ }
+    ensures { λ r. ⌜ Fills (desk (now (image .entry)) state (now (log .entry))) (now (work .entry)) addr len r (now (work .exit)) ⌝ }
 {
     let answer = asked(state, image.len(), log.len(), work.len(), addr, len);
     let Answer::Done = answer else {
@@ -72,7 +73,7 @@ pub fn read<'a>(
     addr: usize,
     len: usize,
 ) -> &'a mut [u8]
-    ensures { λ r. ⌜ HandsBack (now (image .entry)) state (now (log .entry)) (work .entry) addr len r ⌝ }
+    ensures { λ r. ⌜ HandsBack (desk (now (image .entry)) state (now (log .entry))) (work .entry) addr len r ⌝ }
 {
     let Answer::Done = read_fill(state, image, log, work, addr, len) else {
         return &mut work[..0];
