@@ -7,27 +7,27 @@ use borrow.Author.Tests.{eq-eqb, ne-eqb, eqb-true, leb-true}
 use Rattle.region.specs.Answer.{unless}
 use Rattle.region.proofs.AnswerLaws.{passed}
 use Rattle.region.proofs.Booleans.{cond-when, cond-unless, and-unless, both, both-true}
-use Rattle.records.specs.State.{sound}
+use Rattle.records.specs.State.{sound-for}
 use Rattle.records.specs.declared.state.State.{State}
 use Rattle.writelog.specs.Read.{asked-number}
 
 module _ (L : ℕ) (st : State) (log-length work-length addr len : ℕ) where
   abbrev fit : Bool
-  fit = sound L st log-length && eqb work-length L
+  fit = sound-for L st log-length && eqb work-length L
 
   abbrev past : ℕ
   past = unless (leb (addr + len) L) 2 0
 
-  pub asked-unsound : sound L st log-length ≡ false → asked-number L st log-length work-length addr len ≡ 1
+  pub asked-unsound : sound-for L st log-length ≡ false → asked-number L st log-length work-length addr len ≡ 1
   unfolding asked-number
-  asked-unsound e = cond-unless fit past 1 (and-unless (sound L st log-length) (eqb work-length L) e)
+  asked-unsound e = cond-unless fit past 1 (and-unless (sound-for L st log-length) (eqb work-length L) e)
 
   pub asked-other-length : (work-length ≡ L → ⊥) → asked-number L st log-length work-length addr len ≡ 1
   unfolding asked-number
   asked-other-length n =
-      cond-unless fit past 1 (ap (λ (b : Bool). sound L st log-length && b) (ne-eqb work-length L n) ∙ and-false (sound L st log-length))
+      cond-unless fit past 1 (ap (λ (b : Bool). sound-for L st log-length && b) (ne-eqb work-length L n) ∙ and-false (sound-for L st log-length))
 
-  module _ (s : sound L st log-length ≡ true) (w : work-length ≡ L) where
+  module _ (s : sound-for L st log-length ≡ true) (w : work-length ≡ L) where
     pub asked-outside : leb (addr + len) L ≡ false → asked-number L st log-length work-length addr len ≡ 2
     unfolding asked-number
     asked-outside e = cond-when fit past 1 (both-true s (eq-eqb work-length L w)) ∙ cond-unless (leb (addr + len) L) 0 2 e
@@ -38,7 +38,7 @@ module _ (L : ℕ) (st : State) (log-length work-length addr len : ℕ) where
 
 -- what it means that a read is done
 pub record Asked (L : ℕ) (st : State) (log-length work-length addr len : ℕ) : Type 0 where
-  pub good : sound L st log-length ≡ true
+  pub good : sound-for L st log-length ≡ true
   pub whole : work-length ≡ L
   pub lies : addr + len ≤ L
 

@@ -1,9 +1,12 @@
 -- `writelog::flush::flush` meets its promise: a sound log is replayed whole over the image. Assumes nothing.
-use mathlib.Core.Path.{ap, _∙_}
+use Prim.Native.Nat.{ℕ}
+use mathlib.Core.Path.{ap, ap₂, _∙_}
 use mathlib.Core.List.{List}
 use lib.ListN.{length}
 use borrow.Author.Needs.{needs}
 use Rattle.pieces.specs.AsyncSpec.{Write, committed, flush-writes}
+use Rattle.records.specs.Desk.{desk}
+use Rattle.records.specs.declared.state.State.{State}
 use Rattle.records.proofs.Walk.{all-remain, all-writes}
 use Rattle.records.proofs.Soundness.{Told, told-bytes, told-unsound}
 use Rattle.writelog.proofs.FlushLaws.{flushes-done, flushes-refused}
@@ -33,8 +36,10 @@ returns-2 : tie.Need-returns-2
 returns-2 c =
     let told = c .before .before .before .before .before in
     let a = start told .args in
-    flushes-done (told-here told .good) (c .emptied .ensures)
+    flushes-done (told-here told .good)
+    (ap₂ (λ (x : List ℕ) (st : State). desk x st (a .log .now))
     (c .before .before .before .replay-whole .ensures ∙ ap (λ (ws : List Write). committed (flush-writes (a .image .now) ws)) (all-writes (a .state) (a .log .now)))
+    (c .emptied .ensures))
 
 pub flush-spec : {M : Type 1} → statement M
 flush-spec =

@@ -10,19 +10,22 @@ use Rattle.region.specs.Pmemspec.{extract-bytes}
 use Rattle.region.specs.Answer.{answer-number}
 use Rattle.region.proofs.AnswerLaws.{done-changed, refused-left, changed}
 use Rattle.pieces.specs.AsyncSpec.{readable}
-use Rattle.records.specs.State.{view}
+use Rattle.records.specs.Desk.{Desk, desk, view}
 use Rattle.writelog.specs.Read.{read-number}
 use Rattle.writelog.proofs.ReadLaws.{Asked, asked-done}
 use Rattle.writelog.proofs.read.read.Statement.{statement}
 use Rattle.writelog.proofs.read.read.Tie as tie
+
+-- the desk that is handed in
+abbrev here : tie.Start → Desk
+here c = desk (c .args .image .now) (c .args .state) (c .args .log .now)
 
 -- the function's entry, from where the test of the state was passed
 abbrev start : tie.After-enum-told → tie.Start
 start c = c .before .before .before .before .before .before .before .before .before
 
 -- the read is done, where its number says so
-done-here : (c : tie.After-enum-told) → let a = start c .args in
-    read-number (a .image .now) (a .state) (a .log .now) (a .work .now) (a .addr) (a .len) ≡ 0
+done-here : (c : tie.After-enum-told) → let a = start c .args in read-number (here (start c)) (a .work .now) (a .addr) (a .len) ≡ 0
 done-here c = sym (c .before .before .before .before .read-fill .ensures .answers) ∙ ap answer-number (c .enum-told .given .1)
 
 asked-here : (c : tie.After-enum-told) → let a = start c .args in
@@ -32,13 +35,14 @@ asked-here c = asked-done (done-here c)
 returns : tie.Need-returns
 returns c =
     let fill = c .before .before .before .before .before in
-    let a = fill .before .before .before .before .before .args in
+    let at = fill .before .before .before .before .before in
+    let a = at .args in
     let why = c .before .enum-told2 .given .0 .0 in
     let e = sym (fill .read-fill .ensures .answers) ∙ ap answer-number (c .before .enum-told2 .given .1) in
     record {
       block = refl;
       offset = sym (add-zero (a .work .ptr .1)) ∙ ap (λ (k : ℕ). a .work .ptr .1 + k) (refused-left why _ e);
-      bytes = ap (extract-bytes (readable (view (a .image .now) (a .state) (a .log .now))) (a .addr)) (refused-left why _ e);
+      bytes = ap (extract-bytes (readable (view (here at))) (a .addr)) (refused-left why _ e);
     }
 
 add-end : tie.Need-add-end
@@ -57,7 +61,7 @@ returns-2 c =
       block = refl;
       offset = add-comm (a .addr) (a .work .ptr .1) ∙ ap (λ (k : ℕ). a .work .ptr .1 + k) (done-changed _ e);
       bytes =
-          ap₂ (λ (w : List ℕ) (n : ℕ). take n (drop (a .addr) w)) (changed _ (fill .read-fill .ensures .work-after) e)
+          ap₂ (λ (w : List ℕ) (n : ℕ). take n (drop (a .addr) w)) (changed _ (fill .read-fill .ensures .fills) e)
           (add-sub-cancel-left (a .addr) (a .len) ∙ done-changed _ e);
     }
 

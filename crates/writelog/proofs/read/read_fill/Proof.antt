@@ -9,6 +9,7 @@ use Rattle.region.specs.Answer.{answer-number}
 use Rattle.region.proofs.AnswerLaws.{done-changed, refused-left}
 use Rattle.pieces.specs.AsyncSpec.{Write, committed, flush-writes}
 use Rattle.pieces.proofs.Laid.{update-whole}
+use Rattle.records.specs.Desk.{Desk, desk}
 use Rattle.records.specs.Log.{Remaining}
 use Rattle.records.proofs.Walk.{all-remain, all-writes}
 use Rattle.records.proofs.Soundness.{sound-facts}
@@ -17,13 +18,16 @@ use Rattle.writelog.proofs.ReadLaws.{Asked, asked-done}
 use Rattle.writelog.proofs.read.read_fill.Statement.{statement}
 use Rattle.writelog.proofs.read.read_fill.Tie as tie
 
+-- the desk that is handed in
+abbrev here : tie.Start → Desk
+here c = desk (c .args .image .now) (c .args .state) (c .args .log .now)
+
 -- the function's entry, from where the test of the state was passed
 abbrev start : tie.After-enum-told → tie.Start
 start c = c .before .before .before .before .before .before
 
 -- the read is done, where its test says so
-done-here : (c : tie.After-enum-told) → let a = start c .args in
-    read-number (a .image .now) (a .state) (a .log .now) (a .work .now) (a .addr) (a .len) ≡ 0
+done-here : (c : tie.After-enum-told) → let a = start c .args in read-number (here (start c)) (a .work .now) (a .addr) (a .len) ≡ 0
 done-here c = sym (c .before .before .asked .ensures .0) ∙ ap answer-number (c .enum-told .given .1)
 
 asked-here : (c : tie.After-enum-told) → let a = start c .args in
@@ -34,7 +38,7 @@ returns : tie.Need-returns
 returns c =
     let answers = c .before .before .asked .ensures .0 in
     let why = c .enum-told2 .given in
-    record { answers = answers; work-after = refused-left (why .0 .0) _ (sym answers ∙ ap answer-number (why .1)) }
+    record { answers = answers; fills = refused-left (why .0 .0) _ (sym answers ∙ ap answer-number (why .1)) }
 
 lay-requires : tie.Need-lay-requires
 lay-requires c κs = omega (arith, asked-here (c .before) .whole)
@@ -53,7 +57,7 @@ returns-2 c =
     let laid = c .before .before .before .before .before .before .lay .ensures ∙ update-whole (a .work .now) (a .image .now) (asked-here told .whole) in
     record {
       answers = told .before .before .asked .ensures .0;
-      work-after =
+      fills =
           c .before .before .replay-whole .ensures
           ∙ ap₂ (λ (w : List ℕ) (ws : List Write). committed (flush-writes w ws)) laid (all-writes (a .state) (a .log .now))
           ∙ done-changed _ (done-here told);

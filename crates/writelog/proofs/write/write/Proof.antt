@@ -2,17 +2,29 @@
 -- exactly where that is 0. Assumes nothing.
 use Prim.Native.Nat.{ℕ}
 use native.Mathlib.Omega.{arith}
-use mathlib.Core.Path.{_≡_, refl, sym, ap, _∙_}
+use mathlib.Core.List.{List}
+use mathlib.Core.Path.{_≡_, refl, sym, ap, ap₂, _∙_}
 use lib.ListN.{length}
 use borrow.Author.Needs.{needs}
 use Rattle.region.specs.declared.Refusal.the-variants.{BadState}
 use Rattle.region.specs.Pmemspec.{update-bytes}
 use Rattle.region.specs.Answer.{answer-number}
+use Rattle.pieces.specs.AsyncSpec.{Write, write-of}
+use Rattle.records.specs.State.{record-of}
+use Rattle.records.specs.Desk.{Desk, desk}
+use Rattle.records.proofs.RoomLaws.{room-done}
 use Rattle.records.proofs.Soundness.{Told, told-bytes, told-unsound, Room}
 use Rattle.writelog.specs.Write.{write-number}
-use Rattle.writelog.proofs.WriteLaws.{room-done, write-unsound, write-sound, writes-done, writes-refused}
+use Rattle.writelog.proofs.WriteLaws.{write-unsound, write-sound, writes-done, writes-refused}
 use Rattle.writelog.proofs.write.write.Statement.{statement}
 use Rattle.writelog.proofs.write.write.Tie as tie
+
+-- the desk and the write that are handed in
+abbrev here : tie.Start → Desk
+here c = desk (c .args .image .now) (c .args .state) (c .args .log .now)
+
+abbrev new : tie.Start → Write
+new c = write-of (c .args .addr) (c .args .bytes .now)
 
 -- the places that the answers go back to
 abbrev start : tie.After-known-told → tie.Start
@@ -26,21 +38,18 @@ told-here : (c : tie.After-known-told) → let a = start c .args in Told (length
 told-here c = told-bytes _ (start c .args .state) _ (c .before .before .before .checked .ensures .0) (c .before .used .given .1)
 
 -- a sound state has the number of the room that there is
-number-here : (c : tie.After-room) → let a = start (c .before) .args in
-    answer-number (c .room .result) ≡ write-number (a .image .now) (a .state) (a .log .now) (a .addr) (length (a .bytes .now))
-number-here c =
-    let a = start (c .before) .args in
-    c .room .ensures ∙ sym (write-sound (a .image .now) (a .state) (a .log .now) (a .addr) (length (a .bytes .now)) (told-here (c .before) .good))
+number-here : (c : tie.After-room) → let at = start (c .before) in answer-number (c .room .result) ≡ write-number (here at) (new at)
+number-here c = let at = start (c .before) in c .room .ensures ∙ sym (write-sound (here at) (new at) (told-here (c .before) .good))
 
 -- there is room, where its test says so
-room-here : (c : tie.After-enum-told2) → let a = start (asked c .before) .args in Room (length (a .image .now)) (a .state) (a .addr) (length (a .bytes .now))
-room-here c = room-done _ (start (asked c .before) .args .state) _ _ (sym (asked c .room .ensures) ∙ ap answer-number (c .enum-told2 .given .1))
+room-here : (c : tie.After-enum-told2) → let at = start (asked c .before) in Room (length (here at .image)) (here at .state) (record-of (new at))
+room-here c = room-done _ (start (asked c .before) .args .state) _ (sym (asked c .room .ensures) ∙ ap answer-number (c .enum-told2 .given .1))
 
 returns : tie.Need-returns
 returns c =
-    let a = c .before .before .before .before .before .before .args in
-    let bad = told-unsound _ (a .state) _ (c .before .before .checked .ensures .0) (c .enum-told .given .1) in
-    writes-refused (sym (write-unsound (a .image .now) (a .state) (a .log .now) (a .addr) (length (a .bytes .now)) bad)) BadState refl
+    let at = c .before .before .before .before .before .before in
+    let bad = told-unsound _ (at .args .state) _ (c .before .before .checked .ensures .0) (c .enum-told .given .1) in
+    writes-refused (sym (write-unsound (here at) (new at) bad)) BadState refl
 
 room-requires : tie.Need-room-requires
 room-requires c κs =
@@ -58,8 +67,9 @@ returns-2 c =
     let told2 = c .before .before .before .before in
     let a = start (asked told2 .before) .args in
     let put = c .before .before .recorded in
-    writes-done (number-here (asked told2)) (told2 .enum-told2 .given .1) (put .ensures .0)
-    (put .ensures .1 ∙ ap (λ (n : ℕ). update-bytes (a .log .now) n (a .bytes .now)) (told-here (asked told2 .before) .counted))
+    writes-done (number-here (asked told2)) (told2 .enum-told2 .given .1)
+    (ap₂ (desk (a .image .now)) (put .ensures .0)
+    (put .ensures .1 ∙ ap (λ (n : ℕ). update-bytes (a .log .now) n (a .bytes .now)) (told-here (asked told2 .before) .counted)))
 
 returns-3 : tie.Need-returns-3
 returns-3 c = writes-refused (number-here (c .before .before)) (c .enum-told3 .given .0 .0) (c .enum-told3 .given .1)
