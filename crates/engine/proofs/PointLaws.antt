@@ -11,10 +11,11 @@ use borrow.Author.Tests.{le-leb, leb-true}
 use Rattle.region.specs.Limits.{const-persistence-chunk-size}
 use Rattle.region.proofs.Booleans.{both, both-true}
 use Rattle.pieces.specs.Choice.{touched, points}
-use Rattle.pieces.specs.AsyncSpec.{write}
+use Rattle.pieces.specs.AsyncSpec.{Write, write}
 use Rattle.cuts.specs.Number.{choice-points}
 use Rattle.cuts.proofs.Choices.{points-of-one-more}
-use Rattle.records.specs.State.{log-records, together, writes-of, records-inside, sound, view}
+use Rattle.records.specs.State.{log-records, together, writes-of, records-inside}
+use Rattle.records.specs.Desk.{Desk, chunk-size, view, sound}
 use Rattle.records.specs.Log.{last-records, Remaining}
 use Rattle.records.specs.declared.state.Record.{Record}
 use Rattle.records.specs.declared.state.State.{State}
@@ -44,11 +45,10 @@ pub piece-length : (at n : ℕ) (log : List ℕ) → at + n ≤ length log → l
 piece-length at n log h = rw (add-sub-cancel-left at n) (length-take-le n (drop at log) (omega (arith, length-drop at log)))
 
 -- the points of the oldest remaining write, and of those after it
-pub points-more : {L : ℕ} {st : State} {n at left : ℕ} → Remaining L st n at left → 0 < left
-    → record-points const-persistence-chunk-size (last-records st left)
-    ≡ touched const-persistence-chunk-size (oldest st left .addr) (oldest st left .len) + record-points const-persistence-chunk-size (last-records st (left - 1))
+pub points-more : (C : ℕ) {L : ℕ} {st : State} {n at left : ℕ} → Remaining L st n at left → 0 < left
+    → record-points C (last-records st left) ≡ touched C (oldest st left .addr) (oldest st left .len) + record-points C (last-records st (left - 1))
 unfolding record-points
-points-more {st = st} {left = left} r p =
+points-more C {st = st} {left = left} r p =
     let follow : st .count - left + 1 ≡ st .count - (left - 1) = omega (arith, r .some) in
     rw (next-and-rest st (st .count - left) (omega (arith, r .some)) (omega (arith, r .sized, r .few)), follow)
 
@@ -62,9 +62,14 @@ unfolding record-points together
 record-points-le [] = le-refl 0
 record-points-le (r ∷ rs) = omega (arith, touched-le (r .addr) (r .len), record-points-le rs)
 
--- the points of a sound log with one write more
-pub points-with-a-write : (image : List ℕ) (st : State) (log : List ℕ) (addr : ℕ) (bytes : List ℕ) → sound (length image) st (length log) ≡ true
-    → choice-points const-persistence-chunk-size (write (view image st log) addr bytes) ≡ record-points const-persistence-chunk-size (log-records st) + touched const-persistence-chunk-size addr (length bytes)
-points-with-a-write image st log addr bytes good =
-    let facts = sound-facts (length image) st (length log) good in
-    rw (points-of-one-more, points-by-records const-persistence-chunk-size (log-records st) log (omega (arith, facts .room, facts .buffer)))
+-- the points of a sound log
+pub points-of-the-log : (d : Desk) → sound d ≡ true → choice-points (chunk-size d) (view d) ≡ record-points (chunk-size d) (log-records (d .state))
+points-of-the-log d good =
+    let facts = sound-facts _ (d .state) _ good in
+    points-by-records (chunk-size d) (log-records (d .state)) (d .log) (omega (arith, facts .room, facts .buffer))
+
+-- and with one write more
+pub points-with-a-write : (d : Desk) (w : Write) → sound d ≡ true
+    → choice-points (chunk-size d) (write (view d) w)
+    ≡ record-points (chunk-size d) (log-records (d .state)) + touched (chunk-size d) (w .addr) (length (w .bytes))
+points-with-a-write d w good = rw (points-of-one-more, points-of-the-log d good)

@@ -7,25 +7,27 @@ use mathlib.Core.List.{List}
 use lib.Dec.{lit<}
 use lib.ListN.{length, take, drop}
 use Rattle.region.specs.Limits.{const-persistence-chunk-size}
-use Rattle.pieces.specs.AsyncSpec.{Write, size-to-chunks, apply-write-selective, flush-writes-selective, write}
+use Rattle.pieces.specs.AsyncSpec.{Write, size-to-chunks, apply-write-selective, flush-writes-selective, write-of}
 use Rattle.pieces.specs.Choice.{touched, row-of, rows-of}
-use Rattle.cuts.specs.Bits.{new-write}
-use Rattle.cuts.specs.Number.{choice-image, choice-points}
+use Rattle.cuts.specs.Number.{choice-points}
 use Rattle.cuts.proofs.Pairs.{choice-of-a-write}
-use Rattle.records.specs.State.{log-records, view}
+use Rattle.records.specs.Desk.{Desk, chunk-size, view}
 use Rattle.records.specs.Log.{last-writes, Remaining}
 use Rattle.records.specs.declared.state.State.{State}
 use Rattle.records.proofs.Soundness.{sound-facts}
 use Rattle.records.proofs.Walk.{oldest, no-more, step, piece-is, all-writes, all-remain}
-use Rattle.engine.specs.Search.{Ready}
-use Rattle.engine.proofs.PointLaws.{points-by-records, piece-length}
+use Rattle.engine.specs.Search.{Ready, trial-image}
+use Rattle.engine.proofs.PointLaws.{points-of-the-log, piece-length}
+
+abbrev C : ℕ
+C = const-persistence-chunk-size
 
 -- a log replayed over an image, and one write laid over it, by the chunks that a choice number keeps
 abbrev replay-by : ℕ → List ℕ → List Write → List ℕ
-replay-by m s ws = flush-writes-selective const-persistence-chunk-size s ws (rows-of const-persistence-chunk-size (size-to-chunks const-persistence-chunk-size (length s)) ws m)
+replay-by m s ws = flush-writes-selective C s ws (rows-of C (size-to-chunks C (length s)) ws m)
 
 abbrev lay-by : ℕ → List ℕ → Write → List ℕ
-lay-by m s w = apply-write-selective const-persistence-chunk-size s w (row-of const-persistence-chunk-size (size-to-chunks const-persistence-chunk-size (length s)) w m)
+lay-by m s w = apply-write-selective C s w (row-of C (size-to-chunks C (length s)) w m)
 
 -- the replay of the last writes: none is left, or the oldest is laid by the number's lowest points and the others by those above
 module _ (work : List ℕ) (st : State) (log : List ℕ) (at left m : ℕ) (remain : Remaining (length work) st (length log) at left) where
@@ -34,9 +36,9 @@ module _ (work : List ℕ) (st : State) (log : List ℕ) (at left m : ℕ) (rema
   replay-none none = rw (no-more _ st _ at left remain none log)
 
   pub replay-step : 0 < left → {laid work′ : List ℕ} {n : ℕ} → let r = oldest st left in
-      laid ≡ lay-by m work (new-write (r .addr) (take (at + r .len - at) (drop at log)))
+      laid ≡ lay-by m work (write-of (r .addr) (take (at + r .len - at) (drop at log)))
       → length laid ≡ length work
-      → n ≡ touched const-persistence-chunk-size (r .addr) (r .len)
+      → n ≡ touched C (r .addr) (r .len)
       → work′ ≡ replay-by (m / 2 ^ n) laid (last-writes st (left - 1) log (at + r .len))
       → work′ ≡ replay-by m work (last-writes st left log at)
   unfolding flush-writes-selective rows-of
@@ -47,22 +49,19 @@ module _ (work : List ℕ) (st : State) (log : List ℕ) (at left m : ℕ) (rema
       let long : length (take (r .len) (drop at log)) ≡ r .len = sym (ap length piece) ∙ piece-length at (r .len) log (walked .has) in
       rw (w, same, l, piece, k, walked .writes log, long)
 
--- the whole log is left to replay
-pub log-remains : {L : ℕ} {st : State} {log-length work-length addr n points : ℕ} → Ready L st log-length work-length addr n points → Remaining L st log-length 0 (st .count)
-log-remains r = all-remain _ _ _ (r .sized) (sound-facts _ _ _ (r .good))
+module _ {d : Desk} {work-length : ℕ} {w : Write} {n : ℕ} (r : Ready d work-length w n) where
+  -- the whole log is left to replay
+  pub log-remains : Remaining (length (d .image)) (d .state) (length (d .log)) 0 (d .state .count)
+  log-remains = all-remain _ _ _ (r .sized) (sound-facts _ _ _ (r .good))
 
-module _ (image : List ℕ) (st : State) (log : List ℕ) (work-length addr : ℕ) (bytes : List ℕ) (n : ℕ) (r : Ready (length image) st (length log) work-length addr (length bytes) n) where
-  -- the points of the log alone
-  older-points : n - touched const-persistence-chunk-size addr (length bytes) ≡ choice-points const-persistence-chunk-size (view image st log)
-  older-points =
-      let facts = sound-facts (length image) st (length log) (r .good) in
-      omega (arith, r .counted, points-by-records const-persistence-chunk-size (log-records st) log (omega (arith, facts .room, facts .buffer)))
-
-  pub trial-image : (m : ℕ) {copied replayed work′ : List ℕ} {older : ℕ}
-      → copied ≡ image
-      → replayed ≡ replay-by m copied (last-writes st (st .count) log 0)
-      → length replayed ≡ length image
-      → older ≡ n - touched const-persistence-chunk-size addr (length bytes)
-      → work′ ≡ lay-by (m / 2 ^ older) replayed (new-write addr bytes)
-      → work′ ≡ choice-image const-persistence-chunk-size (write (view image st log) addr bytes) m
-  trial-image m c p l o w = rw (w, l, p, c, all-writes st log, o, older-points, choice-of-a-write const-persistence-chunk-size (lit< tt) (view image st log) addr bytes m)
+  pub trial-leaves : (m : ℕ) {copied replayed work′ : List ℕ} {older : ℕ}
+      → copied ≡ d .image
+      → replayed ≡ replay-by m copied (last-writes (d .state) (d .state .count) (d .log) 0)
+      → length replayed ≡ length (d .image)
+      → older ≡ n - touched (chunk-size d) (w .addr) (length (w .bytes))
+      → work′ ≡ lay-by (m / 2 ^ older) replayed w
+      → work′ ≡ trial-image d w m
+  trial-leaves m c p l o laid =
+      let log-points : n - touched (chunk-size d) (w .addr) (length (w .bytes)) ≡ choice-points (chunk-size d) (view d) =
+      omega (arith, r .counted, points-of-the-log d (r .good)) in
+      rw (laid, l, p, c, all-writes (d .state) (d .log), o, log-points, choice-of-a-write (chunk-size d) (lit< tt) (view d) w m)

@@ -53,7 +53,12 @@ next-here c =
     let more = c .loop-test .taken in
     let few : st .count ≤ length (st .records) = omega (arith, entry .pre .few, entry .pre .sized) in
     let in-both = both _ _ (sym (inside-more st i more few image-limit) ∙ c .before .loop .inv .3) in
-    record { lies = leb-true (next st i .addr + next st i .len) image-limit (in-both .0); inside = in-both .1; bytes = together-more st i more few; points = ap (record-points 8) (next-and-rest st i more few) }
+    record {
+      lies = leb-true (next st i .addr + next st i .len) image-limit (in-both .0);
+      inside = in-both .1;
+      bytes = together-more st i more few;
+      points = ap (record-points 8) (next-and-rest st i more few);
+    }
 
 -- a turn adds no more points than the record has bytes
 added : (c : tie.After-touched Inv-loop μ-loop) → let st = start (turn c) .args .t1 in let at-loop = turn c .before .loop in

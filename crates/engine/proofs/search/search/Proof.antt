@@ -5,17 +5,15 @@ use mathlib.Core.Path.{_≡_, refl, sym, _∙_}
 use lib.ListN.{length}
 use lib.Pow.{pow-pos}
 use borrow.Author.Tests.{not-true, not-false}
-use Rattle.region.specs.Limits.{const-persistence-chunk-size}
-use Rattle.pieces.specs.AsyncSpec.{write}
-use Rattle.cuts.specs.Number.{choice-points}
-use Rattle.records.specs.State.{view}
+use Rattle.pieces.specs.AsyncSpec.{write-of}
+use Rattle.records.specs.Desk.{desk}
 use Rattle.engine.proofs.SearchLaws.{Tried, tried-none, tried-more, found-bad, found-none, numbers-exact, ready-points}
 use Rattle.engine.proofs.search.search.Statement.{statement}
 use Rattle.engine.proofs.search.search.Tie as tie
 
 abbrev Inv-loop : tie.InvT-loop
 Inv-loop state image log sheet work₀ addr bytes points last m₀ work m =
-    (last + 1 ≡ 2 ^ points) × (length work ≡ length work₀) × Tried (view image state log) sheet addr bytes points work m
+    (last + 1 ≡ 2 ^ points) × (length work ≡ length work₀) × Tried (desk image state log) sheet (write-of addr bytes) points work m
 
 abbrev μ-loop : tie.MeasureT-loop
 μ-loop state image log sheet work₀ addr bytes points last m₀ work m = last + 1 - m
@@ -31,11 +29,6 @@ turn c = c .before .before
 abbrev tried : tie.After-obeyed Inv-loop μ-loop → tie.After-trial Inv-loop μ-loop
 tried c = c .before .before .before .before
 
--- the points are those of the log with the new write
-points-here : (c : tie.Start Inv-loop μ-loop) → let a = c .args in
-    choice-points const-persistence-chunk-size (write (view (a .image .now) (a .state) (a .log .now)) (a .addr) (a .bytes .now)) ≡ a .points
-points-here c = let a = c .args in ready-points (a .image .now) (a .state) (a .log .now) _ (a .addr) (a .bytes .now) (a .points) (c .pre)
-
 -- a turn's number is one of them
 more-here : (c : tie.In-loop Inv-loop μ-loop) → c .before .loop .m < 2 ^ start c .args .points
 more-here c = omega (arith, c .loop-test .taken, c .before .loop .inv .0)
@@ -48,7 +41,7 @@ sub-last c =
 loop-holds : tie.Need-loop-holds Inv-loop μ-loop
 loop-holds c =
     let entry = c .before .before .before .before .before in
-    (omega (arith, numbers-exact (entry .args .points) (entry .pre .few), pow-pos (entry .args .points)), refl, tried-none (points-here entry))
+    (omega (arith, numbers-exact (entry .args .points) (entry .pre .few), pow-pos (entry .args .points)), refl, tried-none (ready-points (entry .pre)))
 
 trial-requires : tie.Need-trial-requires Inv-loop μ-loop
 trial-requires c κs = rw (c .before .before .loop .inv .1) (start (c .before) .pre)
@@ -61,18 +54,20 @@ same-length c =
 bad : tie.Need-returns Inv-loop μ-loop
 bad c =
     let at = tried (c .before) in
-    found-bad (turn at .before .loop .inv .2) (more-here (turn at)) (at .trial .ensures) (sym (c .before .obeyed .ensures) ∙ not-true (c .before .obeyed .result) (c .if1 .taken))
+    found-bad (turn at .before .loop .inv .2) (more-here (turn at)) (at .trial .ensures)
+    (sym (c .before .obeyed .ensures) ∙ not-true (c .before .obeyed .result) (c .if1 .taken))
 
 loop-again : tie.Need-loop-again Inv-loop μ-loop
 loop-again c =
     let at = tried (c .before) in
     let inv = turn at .before .loop .inv in
-    (inv .0, at .trial .kept .1 .1 .1 .0 ∙ inv .1, tried-more (inv .2) (more-here (turn at)) (at .trial .ensures) (sym (c .before .obeyed .ensures) ∙ not-false (c .before .obeyed .result) (c .if1 .left)))
+    let obeys = sym (c .before .obeyed .ensures) ∙ not-false (c .before .obeyed .result) (c .if1 .left) in
+    (inv .0, at .trial .kept .1 .1 .1 .0 ∙ inv .1, tried-more (inv .2) (more-here (turn at)) (at .trial .ensures) obeys)
 
 all-good : tie.Need-returns-2 Inv-loop μ-loop
 all-good c =
     let entry = c .before .before .before .before .before .before .before in
-    found-none (c .before .loop .inv .2) (points-here entry) (omega (arith, c .before .loop .inv .0))
+    found-none (c .before .loop .inv .2) (ready-points (entry .pre)) (omega (arith, c .before .loop .inv .0))
 
 pub search-spec : {M : Type 1} → statement M
 search-spec =

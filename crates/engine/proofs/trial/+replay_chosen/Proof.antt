@@ -64,7 +64,7 @@ module _ (t : ℕ) where
   -- its points come out of those that are left
   pointed : (c : Left) → let a = start c .args in let r = oldest (a .t1) (a .left) in
       touched 8 (r .addr) (r .len) + record-points 8 (last-records (a .t1) (a .left - 1)) ≤ points-limit
-  pointed c = omega (arith, start c .pre .1 .1, points-more (start c .pre .1 .0) (pos-of-ne-zero (c .if1 .left)))
+  pointed c = omega (arith, start c .pre .1 .1, points-more 8 (start c .pre .1 .0) (pos-of-ne-zero (c .if1 .left)))
 
   none-left : lts.Need-returns (claims t) (with-left t) reads.Post
   none-left c =

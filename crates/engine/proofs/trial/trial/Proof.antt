@@ -5,7 +5,7 @@ use mathlib.Core.Path.{ap, _∙_}
 use borrow.Author.Needs.{needs}
 use Rattle.pieces.proofs.Laid.{update-whole}
 use Rattle.engine.proofs.PointLaws.{all-points}
-use Rattle.engine.proofs.TrialLaws.{log-remains, trial-image}
+use Rattle.engine.proofs.TrialLaws.{log-remains, trial-leaves}
 use Rattle.engine.proofs.trial.trial.Statement.{statement}
 use Rattle.engine.proofs.trial.trial.Tie as tie
 
@@ -20,14 +20,15 @@ replay-chosen-requires : tie.Need-replay-chosen-requires
 replay-chosen-requires c κs =
     let at = c .before .before .before in
     let entry = start at in
-    (rw (at .lay .kept .0 ∙ entry .pre .same) (log-remains (entry .pre)), omega (arith, all-points 8 (entry .args .state), entry .pre .counted, entry .pre .few))
+    let all = all-points 8 (entry .args .state) in
+    (rw (at .lay .kept .0 ∙ entry .pre .same) (log-remains (entry .pre)), omega (arith, all, entry .pre .counted, entry .pre .few))
 
 whole : tie.Need-returns
 whole c =
     let at = c .before .before .before .before .before .before .before in
     let entry = start (laid at) in
     let a = entry .args in
-    trial-image (a .image .now) (a .state) (a .log .now) _ (a .addr) (a .bytes .now) (a .points) (entry .pre) (a .m)
+    trial-leaves (entry .pre) (a .m)
     (laid at .lay .ensures ∙ update-whole (a .work .now) (a .image .now) (entry .pre .same))
     (at .replay-chosen .ensures)
     (at .replay-chosen .kept .1 .1 .0 ∙ laid at .lay .kept .0 ∙ entry .pre .same)
