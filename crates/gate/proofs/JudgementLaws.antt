@@ -1,5 +1,5 @@
 -- What a judgement on all images tells: the write fits. Then the promises, a law for each way that the judging and the gate return. Assumes nothing.
-use Prim.Native.Nat.{ℕ, zero, suc, _+_, _≤_, _<_}
+use Prim.Native.Nat.{ℕ, zero, suc, _≤_, _<_}
 use native.Mathlib.Nat.{suc-ne-zero}
 use native.Mathlib.Omega.{arith}
 use mathlib.Core.Path.{_≡_, refl, sym, ap, _∙_}
@@ -17,17 +17,18 @@ use Rattle.region.proofs.AnswerLaws.{done-changed, not-done, refusal-not-done}
 use Rattle.region.proofs.Booleans.{cond-when, cond-unless, and-unless, both, both-true}
 use Rattle.cuts.specs.Search as search
 use Rattle.sheet.specs.Sheet.{well-formed}
-use Rattle.records.specs.State.{view, sound, appended, log-with}
-use Rattle.writelog.specs.Write.{room-number}
-use Rattle.records.specs.declared.state.State.{State}
-use Rattle.writelog.proofs.WriteLaws.{room-done, room-there}
+use Rattle.pieces.specs.AsyncSpec.{Write}
+use Rattle.records.specs.State.{record-of}
+use Rattle.records.specs.Desk.{Desk, sound, with-write}
+use Rattle.records.proofs.RoomLaws.{room-done, room-there}
 use Rattle.engine.specs.declared.search.Outcome.{Outcome}
 use Rattle.engine.specs.declared.search.Outcome.the-variants.{AllGood, FirstBad}
 use Rattle.engine.specs.Search.{searched, sheet-finding, Searches}
 use Rattle.gate.specs.declared.Verdict.{Verdict}
 use Rattle.gate.specs.declared.Verdict.the-variants.{Admitted, Denied, Refused}
 use Rattle.gate.specs.Meaning.{Fits}
-use Rattle.gate.specs.Judgement.{denied-number, verdict-report, Judgement, refused, tried, gate-points, weighed, fitted, judgement, judgement-report, judgement-work, judge-report, judge-number, judge-work, Judges, Gates, Weighs}
+use Rattle.gate.specs.Judgement.{denied-number, verdict-report, Judgement, refused, tried, judgement-report, judgement-work}
+use Rattle.gate.specs.Judgement.{gate-points, room-for, weighed, fitted, judgement, judge-report, judge-number, Judges, Gates, Weighs}
 
 -- the tests of a judgement, as bare values: all are passed, or one refuses, with a number above 0
 abbrev tests : Bool → Bool → ℕ → Bool → search.Finding → Judgement
@@ -69,171 +70,151 @@ some-reported n search.none-bad e = nothing-reported e
 some-reported n (search.first-bad m) e = nothing-reported e
 
 -- the test of 1
-abbrev first : List ℕ → State → List ℕ → List ℕ → Bool
-first image st log work = sound (length image) st (length log) && eqb (length work) (length image)
+abbrev first : Desk → (work : List ℕ) → Bool
+first d work = sound d && eqb (length work) (length (d .image))
 
 -- few enough points: all images are tried
-weighed-few : (image : List ℕ) (st : State) (log sheet : List ℕ) (addr : ℕ) (bytes : List ℕ) → gate-points image st log addr bytes ≤ points-limit
-    → weighed image st log sheet addr bytes ≡ tried (sheet-finding sheet (view image st log) addr bytes)
-weighed-few image st log sheet addr bytes h = cond-when (leb (gate-points image st log addr bytes) points-limit) _ (refused 7) (le-leb (gate-points image st log addr bytes) points-limit h)
+weighed-few : (d : Desk) (sheet : List ℕ) (w : Write) → gate-points d w ≤ points-limit → weighed d sheet w ≡ tried (sheet-finding d w sheet)
+weighed-few d sheet w h = cond-when (leb (gate-points d w) points-limit) _ (refused 7) (le-leb (gate-points d w) points-limit h)
 
-module _ (image : List ℕ) (st : State) (log sheet work : List ℕ) (addr : ℕ) (bytes : List ℕ) where
-  abbrev pub J : Judgement
-  J = judgement image st log sheet work addr bytes
-
-  -- n, and the engine's verdict
-  abbrev points : ℕ
-  points = gate-points image st log addr bytes
-
-  abbrev finding-on : search.Finding
-  finding-on = sheet-finding sheet (view image st log) addr bytes
-
+module _ (d : Desk) (sheet work : List ℕ) (w : Write) where
   -- the tests that were passed
-  module _ (good : sound (length image) st (length log) ≡ true) (same : length work ≡ length image) where
-    first-passed : J ≡ unless (well-formed sheet) (refused 5) (fitted image st log sheet addr bytes)
+  module _ (good : sound d ≡ true) (same : length work ≡ length (d .image)) where
+    first-passed : judgement d sheet work w ≡ unless (well-formed sheet) (refused 5) (fitted d sheet w)
     unfolding judgement
-    first-passed = cond-when (first image st log work) _ (refused 1) (both-true good (eq-eqb (length work) (length image) same))
+    first-passed = cond-when (first d work) _ (refused 1) (both-true good (eq-eqb (length work) (length (d .image)) same))
 
-    by-room : well-formed sheet ≡ true → {k : ℕ} → room-number (length image) st addr (length bytes) ≡ k → J ≡ if-done k (weighed image st log sheet addr bytes) (refused k)
-    by-room formed e = first-passed ∙ cond-when (well-formed sheet) _ (refused 5) formed ∙ ap (λ (k : ℕ). if-done k (weighed image st log sheet addr bytes) (refused k)) e
+    by-room : well-formed sheet ≡ true → {k : ℕ} → room-for d w ≡ k → judgement d sheet work w ≡ if-done k (weighed d sheet w) (refused k)
+    by-room formed e =
+        first-passed ∙ cond-when (well-formed sheet) _ (refused 5) formed ∙ ap (λ (k : ℕ). if-done k (weighed d sheet w) (refused k)) e
 
-  pub fits-room : Fits image st log sheet work addr bytes → room-number (length image) st addr (length bytes) ≡ 0
-  fits-room f = room-there (length image) st addr (length bytes) (le-leb (addr + length bytes) (length image) (f .lies)) (f .few-writes) (f .few-bytes)
-
-  -- a write that fits is judged on all its images, and no other is
-  pub fitting-tried : Fits image st log sheet work addr bytes → J ≡ tried finding-on
-  fitting-tried f = by-room (f .good) (f .same) (f .formed) (fits-room f) ∙ weighed-few image st log sheet addr bytes (f .few-points)
-
-  pub fits-or-refused : Fits image st log sheet work addr bytes ⊎ ((why : ℕ) × (0 < why) × (J ≡ refused why))
+  fits-or-refused : Fits d sheet work w ⊎ ((why : ℕ) × (0 < why) × (judgement d sheet work w ≡ refused why))
   unfolding judgement
   fits-or-refused =
       ⊎-elim
       (λ t. let t₁ = both _ _ (t .0) in
-      let room = room-done (length image) st addr (length bytes) (t .2) in
+      let room = room-done (length (d .image)) (d .state) (record-of w) (t .2) in
       inl (record {
         good = t₁ .0;
-        same = eqb-true (length work) (length image) (t₁ .1);
+        same = eqb-true (length work) (length (d .image)) (t₁ .1);
         formed = t .1;
         lies = room .lies;
         few-writes = room .few;
         few-bytes = room .fits;
-        few-points = leb-true points points-limit (t .3);
+        few-points = leb-true (gate-points d w) points-limit (t .3);
       }))
       inr
-      (passed-or-refused (first image st log work) (well-formed sheet) (room-number (length image) st addr (length bytes)) (leb points points-limit) finding-on)
+      (passed-or-refused (first d work) (well-formed sheet) (room-for d w) (leb (gate-points d w) points-limit) (sheet-finding d w sheet))
 
+-- a write that fits is judged on all its images, and no other is
+module _ {d : Desk} {sheet work : List ℕ} {w : Write} (f : Fits d sheet work w) where
+  pub fits-room : room-for d w ≡ 0
+  fits-room = room-there (length (d .image)) (d .state) (record-of w) (le-leb _ _ (f .lies)) (f .few-writes) (f .few-bytes)
+
+  pub fitting-tried : judgement d sheet work w ≡ tried (sheet-finding d w sheet)
+  fitting-tried = by-room d sheet work w (f .good) (f .same) (f .formed) fits-room ∙ weighed-few d sheet w (f .few-points)
+
+module _ (d : Desk) (sheet work : List ℕ) (w : Write) where
   -- number 0: the write fits and is admitted
-  pub number-0-fits : judge-number image st log sheet work addr bytes ≡ 0 → Fits image st log sheet work addr bytes × (finding-on ≡ search.none-bad)
+  pub number-0-fits : judge-number d sheet work w ≡ 0 → Fits d sheet work w × (sheet-finding d w sheet ≡ search.none-bad)
   number-0-fits none =
       ⊎-elim
-      (λ f. (f, admit-reported points finding-on (rw (fitting-tried f, judge-number) at none)))
-      (λ w. absurd (omega (arith, w .1, rw (w .2, judge-number) at none)))
-      fits-or-refused
+      (λ f. (f, admit-reported (gate-points d w) (sheet-finding d w sheet) (rw (fitting-tried f, judge-number) at none)))
+      (λ r. absurd (omega (arith, r .1, rw (r .2, judge-number) at none)))
+      (fits-or-refused d sheet work w)
 
   -- number 8 with m: it fits, and m is the first bad number
-  pub report-8-fits : (m : ℕ) → judge-report image st log sheet work addr bytes ≡ record { number = denied-number; values = m ∷ [] } → Fits image st log sheet work addr bytes × (finding-on ≡ search.first-bad m)
+  report-8-fits : (m : ℕ) → judge-report d sheet work w ≡ record { number = denied-number; values = m ∷ [] }
+      → Fits d sheet work w × (sheet-finding d w sheet ≡ search.first-bad m)
   report-8-fits m e =
       ⊎-elim
       (λ f. (f, deny-reported _ m _ (rw (fitting-tried f) at e)))
-      (λ w. absurd (nothing-reported (same-values (rw (w .2) at e))))
-      fits-or-refused
+      (λ r. absurd (nothing-reported (same-values (rw (r .2) at e))))
+      (fits-or-refused d sheet work w)
 
   -- a report of no value: no image was judged
-  no-image-judged : [] ≡ judge-report image st log sheet work addr bytes .values → judge-work image st log sheet work addr bytes ≡ work
+  no-image-judged : [] ≡ judge-report d sheet work w .values → judgement-work d w work (judgement d sheet work w) ≡ work
   no-image-judged e =
       ⊎-elim
-      (λ f. absurd (some-reported points finding-on (rw (fitting-tried f) at e)))
-      (λ w. ap (λ (j : Judgement). judgement-work (view image st log) addr bytes j work) (w .2))
-      fits-or-refused
-
-  pub admitted-number : {answer : Verdict} {work′ : List ℕ} → Judges image st log sheet work addr bytes answer work′ → {n : ℕ} → answer ≡ Admitted n → judge-number image st log sheet work addr bytes ≡ 0
-  admitted-number j a = sym (same-number (j .answers)) ∙ ap (λ (v : Verdict). verdict-report v .number) a
+      (λ (f : Fits d sheet work w). absurd (some-reported (gate-points d w) (sheet-finding d w sheet) (rw (fitting-tried f) at e)))
+      (λ r. ap (judgement-work d w work) (r .2))
+      (fits-or-refused d sheet work w)
 
 -- the promises, return by return
-module _ {image : List ℕ} {st : State} {log sheet work : List ℕ} {addr : ℕ} {bytes : List ℕ} where
-  judges-so : {j : Judgement} {answer : Verdict} {work′ : List ℕ} → J image st log sheet work addr bytes ≡ j
-      → verdict-report answer ≡ judgement-report (gate-points image st log addr bytes) j → work′ ≡ judgement-work (view image st log) addr bytes j work
-      → Judges image st log sheet work addr bytes answer work′
-  judges-so e a w = record { answers = rw e a; work-after = rw e w }
+module _ {d : Desk} {sheet work : List ℕ} {w : Write} where
+  judges-so : {j : Judgement} {answer : Verdict} {work′ : List ℕ} → judgement d sheet work w ≡ j
+      → verdict-report answer ≡ judgement-report (gate-points d w) j → work′ ≡ judgement-work d w work j → Judges d sheet work w answer work′
+  judges-so e a f = record { answers = rw e a; fills = rw e f }
 
-  judges-refused : (why : Refusal) → J image st log sheet work addr bytes ≡ refused (refusal-number why) → Judges image st log sheet work addr bytes (Refused why) work
+  judges-refused : (why : Refusal) → judgement d sheet work w ≡ refused (refusal-number why) → Judges d sheet work w (Refused why) work
   judges-refused why e = judges-so e refl refl
 
-  pub judges-unsound : sound (length image) st (length log) ≡ false → Judges image st log sheet work addr bytes (Refused BadState) work
+  pub judges-unsound : sound d ≡ false → Judges d sheet work w (Refused BadState) work
   unfolding judgement
-  judges-unsound e = judges-refused BadState (cond-unless (first image st log work) _ (refused 1) (and-unless _ _ e))
+  judges-unsound e = judges-refused BadState (cond-unless (first d work) _ (refused 1) (and-unless _ _ e))
 
-  pub judges-other-length : (length work ≡ length image → ⊥) → Judges image st log sheet work addr bytes (Refused BadState) work
+  pub judges-other-length : (length work ≡ length (d .image) → ⊥) → Judges d sheet work w (Refused BadState) work
   unfolding judgement
-  judges-other-length n = judges-refused BadState (cond-unless (first image st log work) _ (refused 1) (rw (ne-eqb (length work) (length image) n, and-false)))
+  judges-other-length n =
+      judges-refused BadState (cond-unless (first d work) _ (refused 1) (rw (ne-eqb (length work) (length (d .image)) n, and-false)))
 
-  module _ (good : sound (length image) st (length log) ≡ true) (same : length work ≡ length image) where
-    pub judges-malformed : well-formed sheet ≡ false → Judges image st log sheet work addr bytes (Refused BadSheet) work
-    judges-malformed e = judges-refused BadSheet (first-passed image st log sheet work addr bytes good same ∙ cond-unless (well-formed sheet) _ (refused 5) e)
+  module _ (good : sound d ≡ true) (same : length work ≡ length (d .image)) where
+    pub judges-malformed : well-formed sheet ≡ false → Judges d sheet work w (Refused BadSheet) work
+    judges-malformed e = judges-refused BadSheet (first-passed d sheet work w good same ∙ cond-unless (well-formed sheet) _ (refused 5) e)
 
-    pub judges-no-room : well-formed sheet ≡ true → (why : Refusal) → room-number (length image) st addr (length bytes) ≡ refusal-number why → Judges image st log sheet work addr bytes (Refused why) work
-    judges-no-room formed why e = judges-refused why (by-room image st log sheet work addr bytes good same formed e ∙ not-done (refusal-number why) _ _ (refusal-not-done why))
+    module _ (formed : well-formed sheet ≡ true) where
+      pub judges-no-room : (why : Refusal) → room-for d w ≡ refusal-number why → Judges d sheet work w (Refused why) work
+      judges-no-room why e =
+          judges-refused why (by-room d sheet work w good same formed e ∙ not-done (refusal-number why) _ _ (refusal-not-done why))
 
-    pub judges-weighed : well-formed sheet ≡ true → room-number (length image) st addr (length bytes) ≡ 0
-        → {answer : Verdict} {work′ : List ℕ} → Weighs image st log sheet work addr bytes answer work′ → Judges image st log sheet work addr bytes answer work′
-    judges-weighed formed e w = judges-so (by-room image st log sheet work addr bytes good same formed e) (w .answers) (w .work-after)
+      pub judges-weighed : room-for d w ≡ 0 → {answer : Verdict} {work′ : List ℕ} → Weighs d sheet work w answer work′ → Judges d sheet work w answer work′
+      judges-weighed e p = judges-so (by-room d sheet work w good same formed e) (p .answers) (p .fills)
 
-  weighs-so : {j : Judgement} {answer : Verdict} {work′ : List ℕ} → weighed image st log sheet addr bytes ≡ j
-      → verdict-report answer ≡ judgement-report (gate-points image st log addr bytes) j → work′ ≡ judgement-work (view image st log) addr bytes j work
-      → Weighs image st log sheet work addr bytes answer work′
-  weighs-so e a w = record { answers = rw e a; work-after = rw e w }
+  weighs-so : {j : Judgement} {answer : Verdict} {work′ : List ℕ} → weighed d sheet w ≡ j
+      → verdict-report answer ≡ judgement-report (gate-points d w) j → work′ ≡ judgement-work d w work j → Weighs d sheet work w answer work′
+  weighs-so e a f = record { answers = rw e a; fills = rw e f }
 
-  pub weighs-many : points-limit < gate-points image st log addr bytes → Weighs image st log sheet work addr bytes (Refused TooManyPoints) work
-  weighs-many h = weighs-so (cond-unless (leb (gate-points image st log addr bytes) points-limit) _ (refused 7) (lt-leb (gate-points image st log addr bytes) points-limit h)) refl refl
+  pub weighs-many : points-limit < gate-points d w → Weighs d sheet work w (Refused TooManyPoints) work
+  weighs-many h = weighs-so (cond-unless (leb (gate-points d w) points-limit) _ (refused 7) (lt-leb (gate-points d w) points-limit h)) refl refl
 
-  module _ (few : gate-points image st log addr bytes ≤ points-limit) {outcome : Outcome} {work′ : List ℕ} (s : Searches (view image st log) sheet addr bytes outcome work′) where
-    weighs-searched : (answer : Verdict) → verdict-report answer ≡ judgement-report (gate-points image st log addr bytes) (tried (searched outcome)) → Weighs image st log sheet work addr bytes answer work′
-    weighs-searched answer e = weighs-so (weighed-few image st log sheet addr bytes few) (e ∙ ap (λ (r : search.Finding). judgement-report (gate-points image st log addr bytes) (tried r)) (s .answers)) (s .work-after)
+  module _ (few : gate-points d w ≤ points-limit) {outcome : Outcome} {work′ : List ℕ} (s : Searches d w sheet outcome work′) where
+    weighs-searched : (answer : Verdict) → verdict-report answer ≡ judgement-report (gate-points d w) (tried (searched outcome))
+        → Weighs d sheet work w answer work′
+    weighs-searched answer e =
+        weighs-so (weighed-few d sheet w few) (e ∙ ap (λ (r : search.Finding). judgement-report (gate-points d w) (tried r)) (s .answers)) (s .fills)
 
-    pub weighs-admitted : {n : ℕ} → outcome ≡ AllGood → n ≡ gate-points image st log addr bytes → Weighs image st log sheet work addr bytes (Admitted n) work′
+    pub weighs-admitted : {n : ℕ} → outcome ≡ AllGood → n ≡ gate-points d w → Weighs d sheet work w (Admitted n) work′
     weighs-admitted {n} o e = weighs-searched (Admitted n) (rw (o, e))
 
-    pub weighs-denied : {m : ℕ} → outcome ≡ FirstBad m → Weighs image st log sheet work addr bytes (Denied m) work′
+    pub weighs-denied : {m : ℕ} → outcome ≡ FirstBad m → Weighs d sheet work w (Denied m) work′
     weighs-denied {m} o = weighs-searched (Denied m) (rw o)
 
-  -- what is done with a judged write
-  module _ {answer : Verdict} {work′ : List ℕ} (j : Judges image st log sheet work addr bytes answer work′) where
-    pub admitted-fits : {n : ℕ} → answer ≡ Admitted n → Fits image st log sheet work addr bytes × (sheet-finding sheet (view image st log) addr bytes ≡ search.none-bad)
-    admitted-fits a = number-0-fits image st log sheet work addr bytes (admitted-number image st log sheet work addr bytes j a)
+-- what is done with a judged write
+module _ {d : Desk} {sheet work : List ℕ} {w : Write} {answer : Verdict} {work′ : List ℕ} (j : Judges d sheet work w answer work′) where
+  pub admitted-number : {n : ℕ} → answer ≡ Admitted n → judge-number d sheet work w ≡ 0
+  admitted-number a = sym (same-number (j .answers)) ∙ ap (λ (v : Verdict). verdict-report v .number) a
 
-    pub denied-fits : {m : ℕ} → answer ≡ Denied m → Fits image st log sheet work addr bytes × (sheet-finding sheet (view image st log) addr bytes ≡ search.first-bad m)
-    denied-fits {m} d = report-8-fits image st log sheet work addr bytes m (sym (j .answers) ∙ ap verdict-report d)
+  pub not-admitted-number : 0 < verdict-report answer .number → 0 < judge-number d sheet work w
+  not-admitted-number h = rw (same-number (j .answers)) at h
 
-    -- a refusal judged nothing
-    pub refused-work : {why : Refusal} → answer ≡ Refused why → work′ ≡ work
-    refused-work a = j .work-after ∙ no-image-judged image st log sheet work addr bytes (same-values (sym (ap verdict-report a) ∙ j .answers))
+  pub admitted-fits : {n : ℕ} → answer ≡ Admitted n → Fits d sheet work w × (sheet-finding d w sheet ≡ search.none-bad)
+  admitted-fits a = number-0-fits d sheet work w (admitted-number a)
 
-    pub gates-admitted : {n : ℕ} → answer ≡ Admitted n → {st′ : State} {log′ : List ℕ} → st′ ≡ appended st addr (length bytes) → log′ ≡ log-with st log bytes
-        → Gates image st log sheet work addr bytes answer st′ log′ work′
-    gates-admitted a s l =
-        let none = admitted-number image st log sheet work addr bytes j a in
-        record {
-          answers = j .answers;
-          state-after = s ∙ done-changed _ none;
-          log-after = l ∙ done-changed _ none;
-          work-after = j .work-after;
-        }
+  pub denied-fits : {m : ℕ} → answer ≡ Denied m → Fits d sheet work w × (sheet-finding d w sheet ≡ search.first-bad m)
+  denied-fits {m} e = report-8-fits d sheet work w m (sym (j .answers) ∙ ap verdict-report e)
 
-    pub not-admitted-number : 0 < verdict-report answer .number → 0 < judge-number image st log sheet work addr bytes
-    not-admitted-number h = rw (same-number (j .answers)) at h
+  -- a refusal judged nothing
+  pub refused-work : {why : Refusal} → answer ≡ Refused why → work′ ≡ work
+  refused-work e = j .fills ∙ no-image-judged d sheet work w (same-values (sym (ap verdict-report e) ∙ j .answers))
 
-    gates-left : 0 < verdict-report answer .number → Gates image st log sheet work addr bytes answer st log work′
-    gates-left h =
-        let some = not-admitted-number h in
-        record {
-          answers = j .answers;
-          state-after = sym (not-done _ _ _ some);
-          log-after = sym (not-done _ _ _ some);
-          work-after = j .work-after;
-        }
+  pub gates-admitted : {n : ℕ} → answer ≡ Admitted n → {d′ : Desk} → d′ ≡ with-write d w → Gates d sheet work w answer d′ work′
+  gates-admitted a e = record { judges = j; leaves = e ∙ done-changed d (admitted-number a) }
 
-    pub gates-denied : {m : ℕ} → answer ≡ Denied m → Gates image st log sheet work addr bytes answer st log work′
-    gates-denied d = gates-left (rw d (omega arith))
+  gates-left : 0 < verdict-report answer .number → Gates d sheet work w answer d work′
+  gates-left h = record { judges = j; leaves = sym (not-done _ (with-write d w) d (not-admitted-number h)) }
 
-    pub gates-refused : {why : Refusal} → answer ≡ Refused why → Gates image st log sheet work addr bytes answer st log work′
-    gates-refused {why} d = gates-left (rw d (refusal-not-done why))
+  pub gates-denied : {m : ℕ} → answer ≡ Denied m → Gates d sheet work w answer d work′
+  gates-denied e = gates-left (rw e (omega arith))
+
+  pub gates-refused : {why : Refusal} → answer ≡ Refused why → Gates d sheet work w answer d work′
+  gates-refused {why} e = gates-left (rw e (refusal-not-done why))

@@ -2,29 +2,27 @@
 use Prim.Native.Nat.{ℕ}
 use native.Mathlib.Nat.{suc-ne-zero}
 use mathlib.Core.Path.{_≡_, refl, sym, ap, subst, fun-ext, _∙_}
+use mathlib.Core.Logic.{_↔_}
 use mathlib.Core.Bool.{true}
 use mathlib.Core.List.{List}
 use lib.Dec.{lit<}
-use lib.ListN.{length}
-use Rattle.region.specs.Limits.{const-persistence-chunk-size}
 use Rattle.region.specs.Answer.{refusal-number}
 use Rattle.region.specs.declared.Refusal.{Refusal}
 use Rattle.region.proofs.AnswerLaws.{refusals-by-number, refusal-not-8, done-changed}
-use Rattle.pieces.specs.AsyncSpec.{AsyncView, write, readable}
+use Rattle.pieces.specs.AsyncSpec.{Write, write, readable}
 use Rattle.cuts.specs.Search as search
 use Rattle.cuts.specs.Covering.{Test, after-alone}
 use Rattle.cuts.specs.Gate.{gate-finding, judges-images}
 use Rattle.cuts.proofs.Gate.{gate-judges-images}
-use Rattle.sheet.specs.Sheet.{obeys}
+use Rattle.sheet.specs.Sheet.{obeys, allows}
 use Rattle.sheet.proofs.Laws.{before-unseen}
-use Rattle.records.specs.State.{view, appended, log-with}
-use Rattle.records.specs.declared.state.State.{State}
+use Rattle.records.specs.Desk.{Desk, chunk-size, view, with-write}
 use Rattle.engine.specs.Search.{sheet-finding, sheet-image}
 use Rattle.gate.specs.declared.Verdict.{Verdict}
 use Rattle.gate.specs.declared.Verdict.the-variants.{Admitted, Denied, Refused}
-use Rattle.gate.specs.Judgement.{denied-number, verdict-report, Judgement, tried, gate-points, judgement-report, judgement-work, Judges, Gates}
-use Rattle.gate.specs.Meaning.{Fits, Means, could-leave}
-use Rattle.gate.proofs.JudgementLaws.{J, same-number, same-values, nothing-reported, one-value, fitting-tried, admitted-fits, denied-fits}
+use Rattle.gate.specs.Judgement.{denied-number, verdict-report, tried, judgement, judgement-report, judgement-work, gate-points, Judges, Gates}
+use Rattle.gate.specs.Meaning.{Fits, MeansBy, Means, could-leave}
+use Rattle.gate.proofs.JudgementLaws.{same-number, same-values, nothing-reported, one-value, fitting-tried, admitted-fits, denied-fits}
 
 -- 8 is a denial alone
 pub denial-is-no-refusal : (why : Refusal) → refusal-number why ≡ denied-number → ⊥
@@ -43,79 +41,88 @@ verdicts-by-report (Refused why) (Denied m) e = absurd (nothing-reported (same-v
 verdicts-by-report (Refused why) (Refused reason) e = ap Refused (refusals-by-number why reason (same-number e))
 
 -- the rule of a sheet looks at the image after alone
-rule-alone : (sheet : List ℕ) → _≡_ {A = Test} (λ before after. obeys sheet before after) (after-alone (λ x. obeys sheet x x))
+rule-alone : (sheet : List ℕ) → _≡_ {A = Test} (λ before after. obeys sheet before after) (after-alone (allows sheet))
 rule-alone sheet = fun-ext (λ before. fun-ext (λ after. before-unseen sheet before after after))
 
-module _ (image : List ℕ) (st : State) (log sheet work : List ℕ) (addr : ℕ) (bytes : List ℕ) where
-  abbrev v : AsyncView
-  v = view image st log
+-- two predicates that are equivalent have members alike
+some-same : {A B : ℕ → Type 0} → ((n : ℕ) → A n ↔ B n) → ((n : ℕ) × A n) ↔ ((n : ℕ) × B n)
+some-same same = (λ a. (a .0, same (a .0) .0 (a .1)), λ b. (b .0, same (b .0) .1 (b .1)))
 
-  abbrev finding-on : search.Finding
-  finding-on = sheet-finding sheet v addr bytes
+-- what the engine's finding means
+judged : (d : Desk) (sheet : List ℕ) (w : Write) → judges-images (chunk-size d) (allows sheet) (view d) w (sheet-finding d w sheet)
+judged d sheet w =
+    subst (λ (rule : Test). judges-images (chunk-size d) (allows sheet) (view d) w (gate-finding (chunk-size d) rule (view d) w)) (sym (rule-alone sheet))
+    (gate-judges-images (chunk-size d) (lit< tt) (view d) w (allows sheet))
 
-  judged : judges-images const-persistence-chunk-size (λ x. obeys sheet x x) v addr bytes finding-on
-  judged =
-      subst (λ (rule : Test). judges-images const-persistence-chunk-size (λ x. obeys sheet x x) v addr bytes (gate-finding const-persistence-chunk-size rule v addr bytes)) (sym (rule-alone sheet))
-      (gate-judges-images const-persistence-chunk-size (lit< tt) v addr bytes (λ x. obeys sheet x x))
+module _ {d : Desk} {sheet work : List ℕ} {w : Write} where
+  module _ {answer : Verdict} {work′ : List ℕ} (p : Judges d sheet work w answer work′) where
+    -- what a write that fits gets, by the engine's finding
+    module _ (f : Fits d sheet work w) {r : search.Finding} (e : sheet-finding d w sheet ≡ r) where
+      answered : (a : Verdict) → verdict-report a ≡ judgement-report (gate-points d w) (tried r) → answer ≡ a
+      answered a report = verdicts-by-report answer a (rw (fitting-tried f, e) at (p .answers) ∙ sym report)
 
-  module _ {answer : Verdict} {work′ : List ℕ} (p : Judges image st log sheet work addr bytes answer work′) where
-    -- what a write that fits gets, by the engine's verdict
-    answered : (r : search.Finding) (a : Verdict) → verdict-report a ≡ judgement-report (gate-points image st log addr bytes) (tried r) → Fits image st log sheet work addr bytes → finding-on ≡ r → answer ≡ a
-    answered r a report f e = verdicts-by-report answer a (rw (fitting-tried image st log sheet work addr bytes f, e) at (p .answers) ∙ sym report)
+      filled : work′ ≡ sheet-image d w r
+      filled = rw (fitting-tried f, e) at (p .fills)
 
-    left : (r : search.Finding) → Fits image st log sheet work addr bytes → finding-on ≡ r → work′ ≡ sheet-image v addr bytes r
-    left r f e = rw (fitting-tried image st log sheet work addr bytes f, e) at (p .work-after)
+    admitted-so : Fits d sheet work w → sheet-finding d w sheet ≡ search.none-bad → answer ≡ Admitted (gate-points d w)
+    admitted-so f e = answered f e (Admitted (gate-points d w)) refl
 
-    admitted-so : Fits image st log sheet work addr bytes → finding-on ≡ search.none-bad → (n : ℕ) × (answer ≡ Admitted n)
-    admitted-so f e = (gate-points image st log addr bytes, answered search.none-bad (Admitted (gate-points image st log addr bytes)) refl f e)
-
-    denied-so : (m : ℕ) → Fits image st log sheet work addr bytes → finding-on ≡ search.first-bad m → answer ≡ Denied m
-    denied-so m f e = answered (search.first-bad m) (Denied m) refl f e
+    denied-so : (m : ℕ) → Fits d sheet work w → sheet-finding d w sheet ≡ search.first-bad m → answer ≡ Denied m
+    denied-so m f e = answered f e (Denied m) refl
 
     -- the theorem of the gate
-    pub judge-means : Means image st log sheet work addr bytes answer work′
+    pub judge-means : Means d sheet work w answer work′
     judge-means =
+        let finds = judged d sheet w in
         record {
           admits = (
-            λ a. let f = admitted-fits p (a .1) in (f .0, judged .admits .0 (f .1)),
-            λ f. admitted-so (f .0) (judged .admits .1 (f .1)),
+            λ a. let f = admitted-fits p (a .1) in (f .0, finds .admits .0 (f .1)),
+            λ f. (gate-points d w, admitted-so (f .0) (finds .admits .1 (f .1))),
           );
           by-part-writes = (
-            λ a. let f = admitted-fits p (a .1) in (f .0, judged .by-part-writes .0 (f .1)),
-            λ f. admitted-so (f .0) (judged .by-part-writes .1 (f .1)),
+            λ a. let f = admitted-fits p (a .1) in (f .0, finds .by-part-writes .0 (f .1)),
+            λ f. (gate-points d w, admitted-so (f .0) (finds .by-part-writes .1 (f .1))),
           );
           denies = (
-            λ d. let f = denied-fits p (d .1) in (f .0, judged .denies .0 (d .0, f .1)),
-            λ f. let d = judged .denies .1 (f .1) in (d .0, denied-so (d .0) (f .0) (d .1)),
+            λ a. let f = denied-fits p (a .1) in (f .0, finds .denies .0 (a .0, f .1)),
+            λ f. let bad = finds .denies .1 (f .1) in (bad .0, denied-so (bad .0) (f .0) (bad .1)),
           );
           names-the-first = λ m. (
-            λ d. let f = denied-fits p d in (f .0, judged .names-the-first m .0 (f .1)),
-            λ f. denied-so m (f .0) (judged .names-the-first m .1 (f .1)),
+            λ a. let f = denied-fits p a in (f .0, finds .names-the-first m .0 (f .1)),
+            λ f. denied-so m (f .0) (finds .names-the-first m .1 (f .1)),
           );
           admitted-leaves = λ n a. let f = admitted-fits p a in (
-            one-value (same-values (sym (ap verdict-report a) ∙ ap verdict-report (answered search.none-bad (Admitted (gate-points image st log addr bytes)) refl (f .0) (f .1)))),
-            left search.none-bad (f .0) (f .1),
+            one-value (same-values (ap verdict-report (sym a ∙ admitted-so (f .0) (f .1)))),
+            filled (f .0) (f .1),
           );
-          denied-leaves = λ m d. let f = denied-fits p d in left (search.first-bad m) (f .0) (f .1);
+          denied-leaves = λ m a. let f = denied-fits p a in filled (f .0) (f .1);
         }
 
-  -- the gate answers as the judging call does
-  pub gate-judges : {answer : Verdict} {st′ : State} {log′ work′ : List ℕ} → Gates image st log sheet work addr bytes answer st′ log′ work′ → Judges image st log sheet work addr bytes answer work′
-  gate-judges g = record { answers = g .answers; work-after = g .work-after }
+  pub gate-means : {answer : Verdict} {d′ : Desk} {work′ : List ℕ} → Gates d sheet work w answer d′ work′ → Means d sheet work w answer work′
+  gate-means g = judge-means (g .judges)
 
-  pub gate-means : {answer : Verdict} {st′ : State} {log′ work′ : List ℕ} → Gates image st log sheet work addr bytes answer st′ log′ work′ → Means image st log sheet work addr bytes answer work′
-  gate-means g = judge-means (gate-judges g)
+  -- what it is to be admitted or denied may be said otherwise, as by a number and what is reported with it
+  pub means-by-same : {A A′ B B′ : ℕ → Type 0} {work′ : List ℕ} → ((n : ℕ) → A n ↔ A′ n) → ((m : ℕ) → B m ↔ B′ m)
+      → MeansBy d sheet work w A B work′ → MeansBy d sheet work w A′ B′ work′
+  means-by-same {A} {A′} {B} {B′} admitted denied means =
+      let some-A : ((n : ℕ) × A n) ↔ ((n : ℕ) × A′ n) = some-same admitted in
+      let some-B : ((m : ℕ) × B m) ↔ ((m : ℕ) × B′ m) = some-same denied in
+      record {
+        admits = (λ a. means .admits .0 (some-A .1 a), λ f. some-A .0 (means .admits .1 f));
+        by-part-writes = (λ a. means .by-part-writes .0 (some-A .1 a), λ f. some-A .0 (means .by-part-writes .1 f));
+        denies = (λ a. means .denies .0 (some-B .1 a), λ f. some-B .0 (means .denies .1 f));
+        names-the-first = λ m. (λ a. means .names-the-first m .0 (denied m .1 a), λ f. denied m .0 (means .names-the-first m .1 f));
+        admitted-leaves = λ n a. means .admitted-leaves n (admitted n .1 a);
+        denied-leaves = λ m a. means .denied-leaves m (denied m .1 a);
+      }
 
   -- The promise can be kept: a write that fits, and of which a cut could leave only images that obey, has the outcome that admits it.
-  pub admitting : Fits image st log sheet work addr bytes → ((x : List ℕ) → could-leave v addr bytes x → obeys sheet x x ≡ true)
-      → Gates image st log sheet work addr bytes (Admitted (gate-points image st log addr bytes)) (appended st addr (length bytes)) (log-with st log bytes) (readable (write v addr bytes))
+  pub admitting : Fits d sheet work w → ((x : List ℕ) → could-leave d w x → allows sheet x ≡ true)
+      → Gates d sheet work w (Admitted (gate-points d w)) (with-write d w) (readable (write (view d) w))
   admitting f all =
-      let admits : J image st log sheet work addr bytes ≡ tried search.none-bad = fitting-tried image st log sheet work addr bytes f ∙ ap tried (judged .admits .1 all) in
-      let report = ap (judgement-report (gate-points image st log addr bytes)) admits in
-      let none = same-number report in
+      let admits : judgement d sheet work w ≡ tried search.none-bad = fitting-tried f ∙ ap tried (judged d sheet w .admits .1 all) in
+      let report = ap (judgement-report (gate-points d w)) admits in
       record {
-        answers = sym report;
-        state-after = done-changed _ none;
-        log-after = done-changed _ none;
-        work-after = sym (ap (λ (j : Judgement). judgement-work v addr bytes j work) admits);
+        judges = record { answers = sym report; fills = sym (ap (judgement-work d w work) admits) };
+        leaves = done-changed d (same-number report);
       }

@@ -50,17 +50,18 @@ judgement-work d w work (tried r) = sheet-image d w r
 abbrev pub gate-points : Desk → Write → ℕ
 gate-points d w = choice-points (chunk-size d) (write (view d) w)
 
+-- 2, 3 or 4, or 0 where there is room for the write
+abbrev pub room-for : Desk → Write → ℕ
+room-for d w = room-number (length (d .image)) (d .state) (record-of w)
+
 module _ (d : Desk) (sheet : List ℕ) (w : Write) where
   -- from 7 on
   abbrev pub weighed : Judgement
   weighed = unless (leb (gate-points d w) points-limit) (refused 7) (tried (sheet-finding d w sheet))
 
   -- from 2 on: the tests of a plain write, and then the judging
-  abbrev room : ℕ
-  room = room-number (length (d .image)) (d .state) (record-of w)
-
   abbrev pub fitted : Judgement
-  fitted = if-done room weighed (refused room)
+  fitted = if-done (room-for d w) weighed (refused (room-for d w))
 
 module _ (d : Desk) (sheet work : List ℕ) (w : Write) where
   unfoldable pub judgement : Judgement

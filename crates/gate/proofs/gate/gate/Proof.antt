@@ -1,10 +1,11 @@
 -- The test of the state, the judging, and for an admitted write the plain write's own step. Assumes nothing.
 use Prim.Native.Nat.{ℕ}
 use native.Mathlib.Omega.{arith}
-use mathlib.Core.Path.{refl, ap, _∙_}
+use mathlib.Core.Path.{refl, ap, ap₂, _∙_}
 use lib.ListN.{length}
 use borrow.Author.Needs.{needs}
 use Rattle.region.specs.Pmemspec.{update-bytes}
+use Rattle.records.specs.Desk.{desk}
 use Rattle.records.proofs.Soundness.{Told, told-bytes, told-unsound}
 use Rattle.gate.proofs.JudgementLaws.{judges-unsound, admitted-fits, gates-admitted, gates-denied, gates-refused}
 use Rattle.gate.proofs.gate.gate.Statement.{statement}
@@ -47,8 +48,9 @@ admitted c =
     let at = judged told2 in
     let a = start (known at) .args in
     let put = c .before .before .recorded in
-    gates-admitted (at .decide .ensures) (told2 .enum-told2 .given .1) (put .ensures .0)
-    (put .ensures .1 ∙ ap (λ (n : ℕ). update-bytes (a .log .now) n (a .bytes .now)) (told-here (known at) .counted))
+    gates-admitted (at .decide .ensures) (told2 .enum-told2 .given .1)
+    (ap₂ (desk (a .image .now)) (put .ensures .0)
+    (put .ensures .1 ∙ ap (λ (n : ℕ). update-bytes (a .log .now) n (a .bytes .now)) (told-here (known at) .counted)))
 
 denied : tie.Need-returns-3
 denied c = gates-denied (c .before .before .before .before .decide .ensures) (c .enum-told3 .given .1)

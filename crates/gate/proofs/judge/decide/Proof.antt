@@ -2,14 +2,15 @@
 use native.Mathlib.Omega.{arith}
 use mathlib.Core.Path.{_≡_, sym, ap, _∙_}
 use mathlib.Core.Bool.{true}
-use lib.ListN.{length}
 use borrow.Author.Tests.{not-true, not-false}
 use borrow.Author.Needs.{needs}
 use Rattle.region.specs.Answer.{answer-number}
 use Rattle.sheet.specs.Sheet.{well-formed}
+use Rattle.pieces.specs.AsyncSpec.{Write, write-of}
+use Rattle.records.specs.Desk.{Desk, desk}
 use Rattle.records.proofs.Soundness.{sound-facts}
-use Rattle.writelog.specs.Write.{room-number}
-use Rattle.writelog.proofs.WriteLaws.{room-done}
+use Rattle.records.proofs.RoomLaws.{room-done}
+use Rattle.gate.specs.Judgement.{room-for}
 use Rattle.gate.proofs.JudgementLaws.{judges-other-length, judges-malformed, judges-no-room, judges-weighed}
 use Rattle.gate.proofs.judge.decide.Statement.{statement}
 use Rattle.gate.proofs.judge.decide.Tie as tie
@@ -21,12 +22,19 @@ start c = c .before .before .before .before .before .before .before .before
 abbrev asked : tie.After-enum-told → tie.Else2
 asked c = c .before .before .before
 
+-- the desk and the write that it is handed
+abbrev here : tie.Start → Desk
+here c = desk (c .args .image .now) (c .args .state) (c .args .log .now)
+
+abbrev new : tie.Start → Write
+new c = write-of (c .args .addr) (c .args .bytes .now)
+
 -- the sheet is well-formed, once its test is passed
 formed-here : (c : tie.Else2) → well-formed (start c .args .sheet .now) ≡ true
 formed-here c = sym (c .before .formed .ensures) ∙ not-false (c .before .formed .result) (c .if2 .left)
 
 -- there is room, where its test says so
-room-none : (c : tie.After-enum-told) → let a = start (asked c) .args in room-number (length (a .image .now)) (a .state) (a .addr) (length (a .bytes .now)) ≡ 0
+room-none : (c : tie.After-enum-told) → let at = start (asked c) in room-for (here at) (new at) ≡ 0
 room-none c = sym (c .before .before .room .ensures) ∙ ap answer-number (c .enum-told .given .1)
 
 other-length : tie.Need-returns
@@ -46,14 +54,19 @@ weigh-requires : tie.Need-weigh-requires
 weigh-requires c κs =
     let at = asked (c .before) in
     let entry = start at in
-    let a = entry .args in
-    record { sized = entry .pre .sized; good = entry .pre .good; same = at .before .before .if1 .left; lies = room-done _ (a .state) _ _ (room-none (c .before)) .lies }
+    record {
+      sized = entry .pre .sized;
+      good = entry .pre .good;
+      same = at .before .before .if1 .left;
+      lies = room-done _ (entry .args .state) _ (room-none (c .before)) .lies;
+    }
 
 no-room : tie.Need-returns-3
 no-room c =
     let answered = c .before .before .before in
     let at = answered .before in
-    judges-no-room (start at .pre .good) (at .before .before .if1 .left) (formed-here at) (c .before .why .given .0 .0) (sym (answered .room .ensures) ∙ ap answer-number (c .before .why .given .1))
+    judges-no-room (start at .pre .good) (at .before .before .if1 .left) (formed-here at) (c .before .why .given .0 .0)
+    (sym (answered .room .ensures) ∙ ap answer-number (c .before .why .given .1))
 
 weighed : tie.Need-returns-4
 weighed c =

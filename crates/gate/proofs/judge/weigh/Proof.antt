@@ -5,7 +5,9 @@ use mathlib.Core.Path.{_≡_, sym, ap₂, _∙_}
 use lib.ListN.{length}
 use borrow.Author.Needs.{needs}
 use Rattle.region.specs.Limits.{image-limit}
+use Rattle.pieces.specs.AsyncSpec.{Write, write-of}
 use Rattle.records.specs.State.{log-records}
+use Rattle.records.specs.Desk.{Desk, desk}
 use Rattle.records.proofs.Soundness.{Sound, sound-facts}
 use Rattle.records.proofs.KeptLaws.{touched-le}
 use Rattle.engine.proofs.PointLaws.{inside-longer, record-points-le, points-with-a-write}
@@ -21,22 +23,33 @@ start c = c .before .before .before .before .before .before .before
 abbrev counted : tie.After-search → tie.After-touched
 counted c = c .before .before .before
 
--- what a sound state says
-facts-here : (c : tie.Start) → Sound (length (c .args .image .now)) (c .args .state) (length (c .args .log .now))
+-- the desk and the write that it is handed
+abbrev here : tie.Start → Desk
+here c = desk (c .args .image .now) (c .args .state) (c .args .log .now)
+
+abbrev new : tie.Start → Write
+new c = write-of (c .args .addr) (c .args .bytes .now)
+
+-- what a sound desk says
+facts-here : (c : tie.Start) → Sound (here c)
 facts-here c = sound-facts _ (c .args .state) _ (c .pre .good)
 
 -- what is counted is n
-points-here : (c : tie.After-touched) → let a = start c .args in
-    c .before .log-points .result + c .touched .result ≡ gate-points (a .image .now) (a .state) (a .log .now) (a .addr) (a .bytes .now)
+points-here : (c : tie.After-touched) → let at = start c in c .before .log-points .result + c .touched .result ≡ gate-points (here at) (new at)
 points-here c =
-    let a = start c .args in
-    ap₂ (_+_) (c .before .log-points .ensures) (c .touched .ensures) ∙ sym (points-with-a-write (a .image .now) (a .state) (a .log .now) (a .addr) (a .bytes .now) (start c .pre .good))
+    let at = start c in
+    ap₂ (_+_) (c .before .log-points .ensures) (c .touched .ensures) ∙ sym (points-with-a-write (here at) (new at) (at .pre .good))
 
 log-points-requires : tie.Need-log-points-requires
 log-points-requires c κs =
     let entry = c .before .before .before .before .before in
     let facts = facts-here entry in
-    record { sized = entry .pre .sized; few = facts .few; inside = inside-longer _ image-limit (log-records (entry .args .state)) (facts .short) (facts .inside); room = facts .room }
+    record {
+      sized = entry .pre .sized;
+      few = facts .few;
+      inside = inside-longer _ image-limit (log-records (entry .args .state)) (facts .short) (facts .inside);
+      room = facts .room;
+    }
 
 -- no sum wraps: a log has no more points than bytes, and a write no more than the image
 add-n : tie.Need-add-n
@@ -44,7 +57,9 @@ add-n c =
     let entry = start c in
     let a = entry .args in
     let facts = facts-here entry in
-    omega (arith, c .touched .ensures, c .before .log-points .ensures, record-points-le (log-records (a .state)), facts .room, facts .short, touched-le (a .addr) (length (a .bytes .now)), entry .pre .lies)
+    let logged = record-points-le (log-records (a .state)) in
+    let written = touched-le (a .addr) (length (a .bytes .now)) in
+    omega (arith, c .touched .ensures, c .before .log-points .ensures, logged, facts .room, facts .short, written, entry .pre .lies)
 
 too-many : tie.Need-returns
 too-many c = weighs-many (omega (arith, points-here (c .before)))

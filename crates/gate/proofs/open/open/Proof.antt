@@ -29,7 +29,8 @@ broken c =
 good : tie.Need-returns-5
 good c =
     let at = c .before .before .before in
-    opens-good (sized at .before .if1 .left) (sized at .if2 .left) (obeys-iff _ _ _ .0 (sym (at .judge .ensures) ∙ c .before .enum-told3 .given .1)) (c .fresh .ensures)
+    opens-good (sized at .before .if1 .left) (sized at .if2 .left)
+    (obeys-iff _ _ _ .0 (sym (at .judge .ensures) ∙ c .before .enum-told3 .given .1)) (c .fresh .ensures)
 
 pub open-spec : {M : Type 1} → statement M
 open-spec =
