@@ -6,11 +6,10 @@ use mathlib.Core.Path.{_≡_, sym, ap, subst⁻¹, _∙_}
 use mathlib.Core.Bool.{Bool, true, false}
 use mathlib.Core.List.{List, [], _∷_, _++_}
 use lib.ListN.{length, length-append}
-use Rattle.region.specs.Pmemspec.{update-bytes}
 use Rattle.region.specs.View.{valid, can-result-from-write, flush-predicted}
-use Rattle.pieces.specs.AsyncSpec.{AsyncView, size-to-chunks, write, flush-selective, apply-write-selective, can-crash-as, can-crash}
+use Rattle.pieces.specs.AsyncSpec.{Write, AsyncView, size-to-chunks, write, apply-write, flush-selective, apply-write-selective, can-crash-as, can-crash}
 use Rattle.pieces.specs.Rows.{row-at}
-use Rattle.cuts.specs.Bits.{new-write, chunks}
+use Rattle.cuts.specs.Bits.{view-chunks}
 use Rattle.cuts.proofs.OneMore.{cut-of-a-write, read-of-a-write}
 use Rattle.cuts.proofs.Shape.{shaped-rows-crash}
 use Rattle.cuts.proofs.Tables.{rows-at-shape}
@@ -31,7 +30,7 @@ module _ (C : ℕ) (tape : List ℕ) (start : ℕ) where
 
   module _ (v : AsyncView) where
     abbrev K : ℕ
-    K = chunks C v
+    K = view-chunks C v
 
     abbrev n : ℕ
     n = length (v .outstanding-writes)
@@ -54,31 +53,31 @@ module _ (C : ℕ) (tape : List ℕ) (start : ℕ) where
     predicted-could-be-left C⁺ =
         cut-could-leave-the-prophecy C C⁺ v (epoch-rows K n tape start) (flush-foretold tape start) (rows-at-shape K n tape (start + 1))
 
-    module _ (addr : ℕ) (bytes : List ℕ) where
+    module _ (w : Write) where
       -- the new write's row lies behind those before it
       abbrev new-row : List Bool
       new-row = row-at K tape (row-place K start n)
 
-      rows-with-the-new : epoch-rows K (length (write v addr bytes .outstanding-writes)) tape start ≡ epoch-rows K n tape start ++ (new-row ∷ [])
+      rows-with-the-new : epoch-rows K (length (write v w .outstanding-writes)) tape start ≡ epoch-rows K n tape start ++ (new-row ∷ [])
       rows-with-the-new =
-          ap (λ k. epoch-rows K k tape start) (length-append (v .outstanding-writes) (new-write addr bytes ∷ []) ∙ add-one n) ∙ rows-at-last K n tape (start + 1)
+          ap (λ k. epoch-rows K k tape start) (length-append (v .outstanding-writes) (w ∷ []) ∙ add-one n) ∙ rows-at-last K n tape (start + 1)
 
       -- `write` of the original keeps to `can_result_from_write`, by the same tape
-      pub foretold-of-a-write : can-result-from-write C (foretold C tape start (write v addr bytes)) (foretold C tape start v) addr bytes
+      pub foretold-of-a-write : can-result-from-write C (foretold C tape start (write v w)) (foretold C tape start v) (w .addr) (w .bytes)
       foretold-of-a-write =
           rw rows-with-the-new
-          (prophecy-of-a-write C (flush-foretold tape start) v addr bytes (epoch-rows K n tape start) new-row (rows-at-shape K n tape (start + 1) .row-for-each-write))
+          (prophecy-of-a-write C (flush-foretold tape start) v w (epoch-rows K n tape start) new-row (rows-at-shape K n tape (start + 1) .row-for-each-write))
 
       -- "an accepted write changes it by the row's kept chunks (header 00) or whole (80)"
       pub predicted-changes-by-the-row : flush-foretold tape start ≡ false
-          → predicted-image C tape start (write v addr bytes) ≡ apply-write-selective C (predicted-image C tape start v) (new-write addr bytes) new-row
+          → predicted-image C tape start (write v w) ≡ apply-write-selective C (predicted-image C tape start v) w new-row
       predicted-changes-by-the-row e =
-          predicted-cut C tape start (write v addr bytes) e ∙ ap (flush-selective C (write v addr bytes)) rows-with-the-new
-          ∙ cut-of-a-write C v addr bytes (epoch-rows K n tape start) new-row (rows-at-shape K n tape (start + 1) .row-for-each-write)
-          ∙ ap (λ x. apply-write-selective C x (new-write addr bytes) new-row) (sym (predicted-cut C tape start v e))
+          predicted-cut C tape start (write v w) e ∙ ap (flush-selective C (write v w)) rows-with-the-new
+          ∙ cut-of-a-write C v w (epoch-rows K n tape start) new-row (rows-at-shape K n tape (start + 1) .row-for-each-write)
+          ∙ ap (λ x. apply-write-selective C x w new-row) (sym (predicted-cut C tape start v e))
 
       pub predicted-changes-whole : flush-foretold tape start ≡ true
-          → predicted-image C tape start (write v addr bytes) ≡ update-bytes (predicted-image C tape start v) addr bytes
+          → predicted-image C tape start (write v w) ≡ apply-write (predicted-image C tape start v) w
       predicted-changes-whole e =
-          predicted-flush C tape start (write v addr bytes) e ∙ read-of-a-write v addr bytes
-          ∙ ap (λ x. update-bytes x addr bytes) (sym (predicted-flush C tape start v e))
+          predicted-flush C tape start (write v w) e ∙ read-of-a-write v w
+          ∙ ap (λ x. apply-write x w) (sym (predicted-flush C tape start v e))

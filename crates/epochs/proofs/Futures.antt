@@ -1,13 +1,14 @@
 -- Every future has a tape: whatever is to end each epoch and whatever rows its cut would keep, the tape of the packed rows tells exactly that, whatever
 -- bytes stand before and behind. Assumes nothing.
 use Prim.Native.Nat.{ℕ, zero, suc, _+_, _*_, _^_, _<_}
+use native.Mathlib.Nat.{zero-add}
 use native.Mathlib.Omega.{arith}
-use mathlib.Core.Path.{_≡_, refl, sym, ap, subst, _∙_}
+use mathlib.Core.Path.{_≡_, refl, ap, subst, _∙_}
 use mathlib.Core.Bool.{Bool, true, false, cond}
 use mathlib.Core.List.{List, [], _∷_, _++_, append-assoc}
 use lib.Dec.{lit<, eqb}
-use lib.ListN.{length, getD, drop, length-append}
-use lib.Seq.{getD-append-seam, drop-append-add}
+use lib.ListN.{length, getD, length-append, List·getD-append}
+use lib.Seq.{getD-append-seam, getD-append-add}
 use borrow.Author.Tests.{eqb-true, le-leb}
 use Rattle.region.proofs.Booleans.{both, both-true}
 use Rattle.pieces.specs.Rows.{row-bytes, rows-at, rows-filled, byte-bits}
@@ -17,7 +18,7 @@ use Rattle.cuts.proofs.Tables.{packed-is-right}
 use Rattle.epochs.specs.Epoch.{flush-header, cut-header, header, header-right, flush-foretold, row-place}
 use Rattle.epochs.specs.Future.{Foreseen, TellsEpoch, Tells, nothing, next, rows-of-width, AllOfWidth, none, more, epoch-bytes, tape-of}
 use Rattle.epochs.proofs.EpochLaws.{epoch-good, flush-header-right, cut-header-right}
-use Rattle.epochs.proofs.RowsLaws.{rows-of-part, rows-filled-of-part, rows-before, rows-filled-before}
+use Rattle.epochs.proofs.RowsLaws.{rows-agree}
 
 module _ (K : ℕ) (e : Foreseen) (shaped : rows-of-width K e) where
   abbrev n : ℕ
@@ -47,9 +48,6 @@ module _ (K : ℕ) (e : Foreseen) (shaped : rows-of-width K e) where
     abbrev start : ℕ
     start = length before
 
-    behind-header : drop (start + 1) tape ≡ table ++ after
-    behind-header = drop-append-add before (epoch-bytes K e ++ after) 1
-
     header-is : header tape start ≡ cond (e .flushing) flush-header cut-header
     header-is = getD-append-seam before (cond (e .flushing) flush-header cut-header) (table ++ after) 0
 
@@ -73,20 +71,22 @@ module _ (K : ℕ) (e : Foreseen) (shaped : rows-of-width K e) where
         by true h = flush-header-right tape start begins h
         by false h = cut-header-right tape start begins h
 
+    read : (rows-at K n tape (start + 1) ≡ rows-at K n table 0) × (rows-filled K n tape (start + 1) ≡ rows-filled K n table 0)
+    read = rows-agree K n tape (start + 1) table 0
+        (λ i h.
+        let place : start + 1 + i ≡ start + suc i = omega arith in
+        rw (place, getD-append-add before (epoch-bytes K e ++ after) (suc i) 0, zero-add i)
+        (List·getD-append table after 0 i (omega (arith, packed-right .1 .2))))
+
     pub epoch-tells : TellsEpoch K tape start e
     epoch-tells =
         record {
-          right = epoch-good K n tape start (both-true headed (le-leb (row-place K start n) (length tape) (omega (arith, long)))) filled;
+          right =
+              epoch-good K n tape start (both-true headed (le-leb (row-place K start n) (length tape) (omega (arith, long))))
+              (read .1 ∙ packed-right .1 .1);
           header-tells = foretold-is;
-          rows-tell =
-              sym (rows-of-part K tape (start + 1) n) ∙ ap (λ (t : List ℕ). rows-at K n t 0) behind-header
-              ∙ rows-before K table after n 0 (omega (arith, packed-right .1 .2)) ∙ packed-right .1 .0;
+          rows-tell = read .0 ∙ packed-right .1 .0;
         }
-      where
-        filled : rows-filled K n tape (start + 1) ≡ true
-        filled =
-            sym (rows-filled-of-part K tape (start + 1) n) ∙ ap (λ (t : List ℕ). rows-filled K n t 0) behind-header
-            ∙ rows-filled-before K table after n 0 (omega (arith, packed-right .1 .2)) ∙ packed-right .1 .1
 
 module _ (K : ℕ) where
   bytes-of-tape : (es : List Foreseen) → AllOfWidth K es → are-bytes (tape-of K es)

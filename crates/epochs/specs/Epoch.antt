@@ -1,5 +1,5 @@
--- An epoch of the tape: a header byte at `start`, then one row for each accepted write. Document 01, "The tape". `start` is a whole number and may lie anywhere, past
--- the tape's end too.
+-- An epoch of the tape: a header byte at `start`, then one row for each accepted write. Document 01, "The tape". `start` is a whole number
+-- and may lie anywhere, past the tape's end too.
 use Prim.Native.Nat.{ℕ, _+_, _*_}
 use mathlib.Core.Bool.{Bool, _&&_, _||_}
 use mathlib.Core.List.{List}

@@ -1,5 +1,5 @@
--- What a tape foretells of a log: `view` of `PMRegionProph` in pmem_async_equiv_v.rs, whose prophecies are here the epoch's header and rows. Its durable state is document
--- 01's predicted image: "the replay of the log with this epoch's rows (all kept under 80)".
+-- What a tape foretells of a log: `view` of `PMRegionProph` in pmem_async_equiv_v.rs, whose prophecies are here the epoch's header and
+-- rows. Its durable state is document 01's predicted image: "the replay of the log with this epoch's rows (all kept under 80)".
 use Prim.Native.Nat.{ℕ}
 use mathlib.Core.List.{List}
 use lib.ListN.{length}

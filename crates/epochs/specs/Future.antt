@@ -1,5 +1,5 @@
--- A future, epoch by epoch: how each ends, and what a cut would keep of its writes. The original draws these as prophecies one at a time and resolves them as they come true;
--- here a future is data, and a tape tells it (`proofs/Futures.antt`: every future has a tape).
+-- A future, epoch by epoch: how each ends, and what a cut would keep of its writes. The original draws these as prophecies one at
+-- a time and resolves them as they come true; here a future is data, and a tape tells it (`proofs/Futures.antt`: every future has a tape).
 use Prim.Native.Nat.{ℕ}
 use mathlib.Core.Path.{_≡_}
 use mathlib.Core.Bool.{Bool, cond}

@@ -1,4 +1,4 @@
--- `tape::epoch::epoch` meets its definition: every row is there before any filling is looked at. Assumes nothing.
+-- `epochs::epoch::epoch` meets its definition: every row is there before any filling is looked at. Assumes nothing.
 use Prim.Native.Nat.{ℕ, _+_, _*_}
 use native.Mathlib.Omega.{arith}
 use mathlib.Core.Path.{_≡_, sym, ap, _∙_}
@@ -30,7 +30,8 @@ filled-is : (c : tie.After-rows-filled) → let at = c .before .before in let a 
     rows-filled (K at) (a .n) (a .tape .now) (a .start + 1) ≡ c .rows-filled .result
 filled-is c =
     let a = start (c .before .before) .args in
-    ap (λ (k : ℕ). rows-filled k (a .n) (a .tape .now) (a .start + 1)) (sym (c .before .before .before .size-to-chunks .ensures)) ∙ sym (c .rows-filled .ensures)
+    ap (λ (k : ℕ). rows-filled k (a .n) (a .tape .now) (a .start + 1)) (sym (c .before .before .before .size-to-chunks .ensures))
+    ∙ sym (c .rows-filled .ensures)
 
 -- past the first test the epoch is there
 passed-there : (c : tie.Else1) → let a = start (c .before) .args in epoch-there (K (c .before)) (a .n) (a .tape .now) (a .start) ≡ true

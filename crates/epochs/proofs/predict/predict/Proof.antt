@@ -1,4 +1,4 @@
--- `tape::predict::predict` leaves the predicted image: over a copy of the image the log is replayed, whole under header 80 and by the epoch's rows under 00.
+-- `epochs::predict::predict` leaves the predicted image: over a copy of the image the log is replayed, whole under header 80 and by the epoch's rows under 00.
 -- Assumes nothing.
 use Prim.Native.Nat.{ℕ, _+_, _*_, _≤_}
 use native.Mathlib.Omega.{arith}
@@ -9,14 +9,20 @@ use Rattle.region.specs.Limits.{const-persistence-chunk-size}
 use Rattle.pieces.specs.AsyncSpec.{size-to-chunks}
 use Rattle.pieces.specs.Rows.{row-bytes}
 use Rattle.pieces.proofs.Laid.{update-whole}
+use Rattle.records.specs.Desk.{Desk, desk}
 use Rattle.records.specs.Log.{Remaining}
-use Rattle.epochs.proofs.PredictLaws.{replayed-whole, replayed-selected}
+use Rattle.epochs.proofs.PredictLaws.{whole-replay-is-predicted, selected-replay-is-predicted}
 use Rattle.epochs.proofs.predict.predict.Statement.{statement}
 use Rattle.epochs.proofs.predict.predict.Tie as tie
 
 -- the function's entry, from where the image was copied
 abbrev start : tie.After-lay → tie.Start
 start c = c .before .before .before .before .before .before
+
+abbrev here : tie.After-lay → Desk
+here c =
+    let a = start c .args in
+    desk (a .image .now) (a .state) (a .log .now)
 
 -- the buffer is a copy of the image, whatever it held
 copy-here : (c : tie.After-lay) → c .lay .last .0 ≡ start c .args .image .now
@@ -30,8 +36,7 @@ length-here c = ap length (copy-here c)
 replay-whole-requires : tie.Need-replay-whole-requires
 replay-whole-requires c κs =
     let lay = c .before .before .before .before .before in
-    let a = start lay .args in
-    subst⁻¹ (λ (n : ℕ). Remaining n (a .state) (length (a .log .now)) 0 (a .state .count)) (length-here lay) (start lay .pre .walk)
+    rw (length-here lay) (start lay .pre .walk)
 
 returns : tie.Need-returns
 returns c =
@@ -39,20 +44,14 @@ returns c =
     let lay = then1 .before .before .before .before in
     let a = start lay .args in
     c .before .before .replay-whole .ensures
-    ∙ replayed-whole _ (a .state) _ (a .tape .now) (a .start) (copy-here lay) (sym (then1 .before .flush-foretold .ensures) ∙ then1 .if1 .taken)
+    ∙ whole-replay-is-predicted (here lay) (a .tape .now) (a .start) (copy-here lay) (sym (then1 .before .flush-foretold .ensures) ∙ then1 .if1 .taken)
 
 replay-selected-requires : tie.Need-replay-selected-requires
 replay-selected-requires c κs =
     let lay = c .before .before .before .before .before .before .before in
     let entry = start lay in
-    let a = entry .args in
-    let w = c .before .row-bytes .result in
     let width = c .before .row-bytes .ensures ∙ ap row-bytes (c .before .before .size-to-chunks .ensures) in
-    let rows : a .start + 1 + a .state .count * w ≤ length (a .tape .now)
-    = omega (arith, entry .pre .rows, ap (λ (w : ℕ). a .state .count * w) width) in
-    subst⁻¹ (λ (n : ℕ). Remaining n (a .state) (length (a .log .now)) 0 (a .state .count)
-    × ((w ≡ row-bytes (size-to-chunks const-persistence-chunk-size n)) × (a .start + 1 + a .state .count * w ≤ length (a .tape .now))))
-    (length-here lay) (entry .pre .walk, (width, rows))
+    rw (length-here lay) (entry .pre .walk, (width, omega (arith, entry .pre .rows, ap (λ (w : ℕ). entry .args .state .count * w) width)))
 
 returns-2 : tie.Need-returns-2
 returns-2 c =
@@ -61,7 +60,7 @@ returns-2 c =
     let a = start lay .args in
     let walk = start lay .pre .walk in
     c .before .before .replay-selected .ensures
-    ∙ replayed-selected _ (a .state) _ (a .tape .now) (a .start) (copy-here lay) (omega (arith, walk .few, walk .sized))
+    ∙ selected-replay-is-predicted (here lay) (a .tape .now) (a .start) (copy-here lay) (omega (arith, walk .few, walk .sized))
     (sym (else1 .before .flush-foretold .ensures) ∙ else1 .if1 .left)
 
 pub predict-spec : {M : Type 1} → statement M
