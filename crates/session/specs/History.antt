@@ -6,9 +6,9 @@ use mathlib.Core.List.{List, []}
 use lib.ListN.{length, replicate}
 use Rattle.region.specs.declared.Answer.{Answer}
 use Rattle.region.specs.declared.Answer.the-variants as answer
-use Rattle.pieces.specs.AsyncSpec.{AsyncView, write, flush, flush-selective}
+use Rattle.pieces.specs.AsyncSpec.{Write, AsyncView, write, flush, flush-selective}
 use Rattle.pieces.specs.Rows.{rows-at}
-use Rattle.cuts.specs.Bits.{chunks}
+use Rattle.cuts.specs.Bits.{view-chunks}
 use Rattle.writelog.specs.declared.cut.CutAnswer.{CutAnswer}
 use Rattle.writelog.specs.declared.cut.CutAnswer.the-variants as cut-answer
 use Rattle.gate.specs.declared.Verdict.{Verdict}
@@ -17,7 +17,7 @@ use Rattle.gate.specs.declared.Verdict.the-variants as verdict
 pub data Event : Type 0 where
   -- a refusal, a denial, a verdict, a read
   nothing : Event
-  written : (addr : ℕ) (bytes : List ℕ) → Event
+  written : Write → Event
   flushed : Event
   -- by the rows that lie in these bytes from there on: a cut's table has them from 0 on, a tape behind its epoch's header
   cut-by : (table : List ℕ) (at : ℕ) → Event
@@ -50,16 +50,16 @@ settled image = record { state-at-last-flush = image; outstanding-writes = [] }
 module _ (C : ℕ) where
   -- a cut's rows, read where they lie: one for each outstanding write, a bit for each chunk
   abbrev pub rows-there : AsyncView → List ℕ → ℕ → List (List Bool)
-  rows-there v table at = rows-at (chunks C v) (length (v .outstanding-writes)) table at
+  rows-there v table at = rows-at (view-chunks C v) (length (v .outstanding-writes)) table at
 
   -- rows that keep nothing
   abbrev pub none-kept : AsyncView → List (List Bool)
-  none-kept v = replicate (length (v .outstanding-writes)) (replicate (chunks C v) false)
+  none-kept v = replicate (length (v .outstanding-writes)) (replicate (view-chunks C v) false)
 
   -- What an event makes of a view. "With writes outstanding [an opening] counts in the history as a cut that keeps none."
   unfoldable pub happen : AsyncView → Event → AsyncView
   happen v nothing = v
-  happen v (written addr bytes) = write v addr bytes
+  happen v (written w) = write v w
   happen v flushed = flush v
   happen v (cut-by table at) = settled (flush-selective C v (rows-there v table at))
   happen v reopened = settled (flush-selective C v (none-kept v))
