@@ -8,36 +8,36 @@ use mathlib.Core.Bool.{Bool, true, false, Bool·beq}
 use mathlib.Core.List.{List, [], _++_}
 use lib.Dec.{lit<}
 use lib.ListN.{length}
-use Rattle.region.specs.Limits.{writes-limit, const-persistence-chunk-size}
+use Rattle.region.specs.Limits.{writes-limit}
 use Rattle.pieces.specs.AsyncSpec.{AsyncView, can-crash-as, can-crash}
-use Rattle.cuts.specs.Bits.{chunks}
+use Rattle.cuts.specs.Bits.{view-chunks}
 use Rattle.cuts.specs.Packed.{are-bytes}
 use Rattle.cuts.specs.Prophecy.{prophecy}
 use Rattle.cuts.specs.Shape.{has-shape}
 use Rattle.cuts.proofs.Packed.{bytes-of-append}
 use Rattle.cuts.proofs.Shape.{crash-rows-shaped}
-use Rattle.records.specs.State.{view, sound}
-use Rattle.records.specs.declared.state.State.{State}
+use Rattle.records.specs.Desk.{Desk, chunk-size, chunks, view, sound}
 use Rattle.records.proofs.Soundness.{sound-facts}
 use Rattle.records.proofs.Views.{writes-counted}
 use Rattle.epochs.specs.Epoch.{flush-foretold, epoch-rows, epoch-number}
 use Rattle.epochs.specs.Foretold.{foretold, predicted-image, predicted-now}
-use Rattle.tape.specs.Cut.{tape-cut-number}
 use Rattle.epochs.specs.Future.{Foreseen, TellsEpoch, epoch-bytes}
 use Rattle.epochs.proofs.Futures.{bytes-of-epoch, epoch-tells}
-use Rattle.tape.proofs.NumberLaws.{tape-sound-there, ending-foretold}
 use Rattle.epochs.proofs.Foretells.{foretold-cut-is-a-crash}
+use Rattle.tape.specs.Memory.{by-tape}
+use Rattle.tape.specs.Cut.{tape-cut-number}
+use Rattle.tape.proofs.NumberLaws.{tape-sound-there, ending-foretold}
 
 -- a tape whose epoch at `start` is right for the log and resolves the original's prophecies so
 pub record Resolves (C : ℕ) (v : AsyncView) (tape : List ℕ) (start : ℕ) (flushing : Bool) (rows : List (List Bool)) : Type 0 where
-  pub right : epoch-number (chunks C v) (length (v .outstanding-writes)) tape start ≡ 0
+  pub right : epoch-number (view-chunks C v) (length (v .outstanding-writes)) tape start ≡ 0
   pub header-tells : flush-foretold tape start ≡ flushing
-  pub rows-tell : epoch-rows (chunks C v) (length (v .outstanding-writes)) tape start ≡ rows
+  pub rows-tell : epoch-rows (view-chunks C v) (length (v .outstanding-writes)) tape start ≡ rows
   pub view-is : foretold C tape start v ≡ prophecy C flushing v rows
 
 module _ (C : ℕ) (v : AsyncView) where
   abbrev K : ℕ
-  K = chunks C v
+  K = view-chunks C v
 
   abbrev n : ℕ
   n = length (v .outstanding-writes)
@@ -90,20 +90,17 @@ module _ (C : ℕ) (v : AsyncView) where
       from (tape, b, r, f, e) = (epoch-rows K n tape 0, subst⁻¹ (λ y. can-crash-as C v y (epoch-rows K n tape 0)) e (foretold-cut-is-a-crash C tape 0 v f))
 
 -- and at the call: every crash of a sound log is done by the tape cut of some tape, whose promise then leaves it as the image
-pub every-crash-is-a-tape-cut : (image : List ℕ) (st : State) (log predicted : List ℕ)
-    → length (st .records) ≡ writes-limit → sound (length image) st (length log) ≡ true → length predicted ≡ length image
-    → (x : List ℕ) (rows : List (List Bool)) → can-crash-as const-persistence-chunk-size (view image st log) x rows
-    → (tape : List ℕ) × are-bytes tape × (tape-cut-number image st log tape 0 predicted ≡ 0) × (predicted-now image st log tape 0 ≡ x)
-every-crash-is-a-tape-cut image st log predicted sized good same x rows h =
-    let v = view image st log in
-    let found = every-crash-has-a-tape const-persistence-chunk-size v x rows h in
+pub every-crash-is-a-tape-cut : (d : Desk) (predicted : List ℕ)
+    → length (d .state .records) ≡ writes-limit → sound d ≡ true → length predicted ≡ length (d .image)
+    → (x : List ℕ) (rows : List (List Bool)) → can-crash-as (chunk-size d) (view d) x rows
+    → (tape : List ℕ) × are-bytes tape × (tape-cut-number (by-tape d 0 predicted) tape ≡ 0) × (predicted-now d tape 0 ≡ x)
+every-crash-is-a-tape-cut d predicted sized good same x rows h =
+    let found = every-crash-has-a-tape (chunk-size d) (view d) x rows h in
     let tape = found .0 in
-    let few : st .count ≤ length (st .records) = omega (arith, sized, sound-facts (length image) st (length log) good .few) in
-    let epoch : epoch-number (chunks const-persistence-chunk-size v) (st .count) tape 0 ≡ 0
-    = subst (λ k. epoch-number (chunks const-persistence-chunk-size v) k tape 0 ≡ 0) (writes-counted image st log few) (found .2 .right) in (
+    let few = sound-facts (length (d .image)) (d .state) (length (d .log)) good .few in
+    let epoch = subst (λ k. epoch-number (chunks d) k tape 0 ≡ 0) (writes-counted d (omega (arith, sized, few))) (found .2 .right) in (
       tape,
       found .1,
-      ending-foretold (length image) st _ _ false tape 0 (tape-sound-there (length image) st _ _ good same) epoch
-          (ap (λ b. Bool·beq b false) (found .2 .header-tells)),
+      ending-foretold _ _ _ (d .state) _ tape _ _ (tape-sound-there _ (d .state) _ _ good same) epoch (ap (λ b. Bool·beq b false) (found .2 .header-tells)),
       sym (found .3),
     )

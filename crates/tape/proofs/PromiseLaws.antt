@@ -1,94 +1,74 @@
 -- The promise of a done tape call, and of a refused one. Assumes nothing.
-use Prim.Native.Nat.{ℕ}
-use mathlib.Core.Path.{_≡_, sym, ap, _∙_}
+use Prim.Native.Nat.{ℕ, zero, suc, _+_}
+use mathlib.Core.Path.{_≡_, refl, sym, ap, _∙_}
+use mathlib.Core.Bool.{Bool, true, false}
 use mathlib.Core.List.{List}
 use lib.ListN.{length}
-use Rattle.region.specs.Answer.{answer-number, refusal-number}
+use Rattle.region.specs.Answer.{answer-number, refusal-number, if-done}
+use Rattle.region.specs.Limits.{writes-limit}
 use Rattle.region.specs.declared.Refusal.{Refusal}
 use Rattle.region.specs.declared.Answer.{Answer}
 use Rattle.region.specs.declared.Answer.the-variants.{Done, Refused}
 use Rattle.region.proofs.AnswerLaws.{done-changed, refused-left}
-use Rattle.pieces.specs.AsyncSpec.{readable}
-use Rattle.records.specs.State.{view, appended, log-with, emptied}
+use Rattle.pieces.specs.AsyncSpec.{Write, readable}
+use Rattle.records.specs.State.{emptied}
+use Rattle.records.specs.Desk.{desk, chunk-size, view}
 use Rattle.records.specs.declared.state.State.{State}
+use Rattle.writelog.specs.Cut.{kept-by-rows}
 use Rattle.writelog.specs.declared.cut.CutAnswer.the-variants as cut-answer
 use Rattle.writelog.proofs.CutLaws.{kept-told, refused-told}
-use Rattle.tape.specs.Write.{tape-write-number, predicted-with, TapeWrites}
 use Rattle.epochs.specs.Foretold.{predicted-now}
-use Rattle.tape.specs.Ending.{next-start}
-use Rattle.tape.specs.Flush.{tape-flush-number, TapeFlushes}
-use Rattle.tape.specs.Cut.{tape-cut-number, tape-kept, TapeCuts}
+use Rattle.epochs.proofs.PredictLaws.{predicted-flush}
+use Rattle.tape.specs.Memory.{TapeDesk, by-tape}
+use Rattle.tape.specs.Write.{tape-write-number, tape-written, TapeWrites}
+use Rattle.tape.specs.Ending.{tape-ending-number, epoch-ended, Settles, Ends}
+use Rattle.tape.specs.Flush.{TapeFlushes}
+use Rattle.tape.specs.Cut.{TapeCuts}
+use Rattle.tape.proofs.NumberLaws.{Ending, ending-done}
 
-module _ {image : List ℕ} {st : State} {log tape : List ℕ} {start : ℕ} {predicted : List ℕ} where
-  module _ {addr : ℕ} {bytes : List ℕ} {answer : Answer}
-      (number : answer-number answer ≡ tape-write-number image st log tape start predicted addr (length bytes)) where
-    pub tape-writes-done : {st′ : State} {log′ predicted′ : List ℕ} → answer ≡ Done
-        → st′ ≡ appended st addr (length bytes) → log′ ≡ log-with st log bytes → predicted′ ≡ predicted-with image st log tape start addr bytes
-        → TapeWrites image st log tape start predicted addr bytes answer st′ log′ predicted′
-    tape-writes-done e s l p =
-        let none : tape-write-number image st log tape start predicted addr (length bytes) ≡ 0 = sym number ∙ ap answer-number e in
+-- what a done call changes may be said otherwise, where that is the same for a done one
+done-agrees {ℓ} : {A : Type ℓ} (n : ℕ) {after after′ : A} (before : A) → (n ≡ 0 → after ≡ after′) → if-done n after before ≡ if-done n after′ before
+done-agrees zero before e = e refl
+done-agrees (suc why) before e = refl
+
+-- a done flush was foretold, so that the predicted image is the read image
+pub flushed-is-predicted : (t : TapeDesk) (tape : List ℕ) → tape-ending-number true t tape ≡ 0
+    → predicted-now (t .memory) tape (t .start) ≡ readable (view (t .memory))
+flushed-is-predicted t tape none =
+    let told : Ending true t tape = ending-done none in
+    predicted-flush (chunk-size (t .memory)) tape (t .start) (view (t .memory)) (told .foretold)
+
+module _ {t : TapeDesk} {tape : List ℕ} {answer : Answer} where
+  module _ {w : Write} (number : answer-number answer ≡ tape-write-number t tape w) where
+    pub tape-writes-done : {t′ : TapeDesk} → answer ≡ Done → t′ ≡ tape-written t tape w → TapeWrites t tape w answer t′
+    tape-writes-done e left = record { answers = number; leaves = left ∙ done-changed t (sym number ∙ ap answer-number e) }
+
+    pub tape-writes-refused : (why : Refusal) → answer ≡ Refused why → TapeWrites t tape w answer t
+    tape-writes-refused why e = record { answers = number; leaves = refused-left why _ (sym number ∙ ap answer-number e) }
+
+  module _ {flushing : Bool} (sized : length (t .memory .state .records) ≡ writes-limit) (number : answer-number answer ≡ tape-ending-number flushing t tape) where
+    pub ends-done : answer ≡ Done → {st′ : State} {next : ℕ} {image′ predicted′ : List ℕ} → Settles (t .memory) tape (t .start) next image′ predicted′
+        → st′ ≡ emptied (t .memory .state) → Ends flushing t tape answer (by-tape (desk image′ st′ (t .memory .log)) next predicted′)
+    ends-done e {st′} {next} {image′} {predicted′} s empty =
+        let left : by-tape (desk image′ st′ (t .memory .log)) next predicted′ ≡ epoch-ended t (predicted-now (t .memory) tape (t .start)) = cc in
+        record { answers = number; leaves = left ∙ done-changed t (sym number ∙ ap answer-number e); sized = sized }
+
+    pub ends-refused : (why : Refusal) → answer ≡ Refused why → Ends flushing t tape answer t
+    ends-refused why e = record { answers = number; leaves = refused-left why _ (sym number ∙ ap answer-number e); sized = sized }
+
+  module _ {t′ : TapeDesk} where
+    -- a flush
+    pub ends-flushing : Ends true t tape answer t′ → TapeFlushes t tape answer t′
+    ends-flushing p =
         record {
-          answers = number;
-          state-after = s ∙ done-changed _ none;
-          log-after = l ∙ done-changed _ none;
-          predicted-after = p ∙ done-changed _ none;
+          answers = p .answers;
+          leaves = p .leaves ∙ done-agrees (tape-ending-number true t tape) t (λ none. ap (epoch-ended t) (flushed-is-predicted t tape none));
         }
 
-    pub tape-writes-refused : (why : Refusal) → answer ≡ Refused why → TapeWrites image st log tape start predicted addr bytes answer st log predicted
-    tape-writes-refused why e =
-        let some : tape-write-number image st log tape start predicted addr (length bytes) ≡ refusal-number why = sym number ∙ ap answer-number e in
-        record {
-          answers = number;
-          state-after = refused-left why _ some;
-          log-after = refused-left why _ some;
-          predicted-after = refused-left why _ some;
-        }
+    -- a cut
+    pub ends-cutting : {k : ℕ} → Ends false t tape answer t′ → answer ≡ Done → k ≡ kept-by-rows (t .memory) tape (t .start + 1)
+        → TapeCuts t tape (cut-answer.Kept k) t′
+    ends-cutting p e kept = record { answers = kept-told kept (sym (p .answers) ∙ ap answer-number e); leaves = p .leaves }
 
-  module _ {answer : Answer} (number : answer-number answer ≡ tape-flush-number image st log tape start predicted) where
-    pub tape-flushes-done : {st′ : State} {start′ : ℕ} {image′ predicted′ : List ℕ} → answer ≡ Done
-        → st′ ≡ emptied st → start′ ≡ next-start (length image) st start → image′ ≡ readable (view image st log) → predicted′ ≡ readable (view image st log)
-        → TapeFlushes image st log tape start predicted answer st′ start′ image′ predicted′
-    tape-flushes-done e s a i p =
-        let none : tape-flush-number image st log tape start predicted ≡ 0 = sym number ∙ ap answer-number e in
-        record {
-          answers = number;
-          state-after = s ∙ done-changed _ none;
-          start-after = a ∙ done-changed _ none;
-          image-after = i ∙ done-changed _ none;
-          predicted-after = p ∙ done-changed _ none;
-        }
-
-    pub tape-flushes-refused : (why : Refusal) → answer ≡ Refused why → TapeFlushes image st log tape start predicted answer st start image predicted
-    tape-flushes-refused why e =
-        let some : tape-flush-number image st log tape start predicted ≡ refusal-number why = sym number ∙ ap answer-number e in
-        record {
-          answers = number;
-          state-after = refused-left why _ some;
-          start-after = refused-left why _ some;
-          image-after = refused-left why _ some;
-          predicted-after = refused-left why _ some;
-        }
-
-  pub tape-cuts-done : {k : ℕ} {st′ : State} {start′ : ℕ} {image′ predicted′ : List ℕ} → tape-cut-number image st log tape start predicted ≡ 0
-      → k ≡ tape-kept image st log tape start → st′ ≡ emptied st → start′ ≡ next-start (length image) st start
-      → image′ ≡ predicted-now image st log tape start → predicted′ ≡ predicted-now image st log tape start
-      → TapeCuts image st log tape start predicted (cut-answer.Kept k) st′ start′ image′ predicted′
-  tape-cuts-done none kept s a i p =
-      record {
-        answers = kept-told kept none;
-        state-after = s ∙ done-changed _ none;
-        start-after = a ∙ done-changed _ none;
-        image-after = i ∙ done-changed _ none;
-        predicted-after = p ∙ done-changed _ none;
-      }
-
-  pub tape-cuts-refused : (why : Refusal) → tape-cut-number image st log tape start predicted ≡ refusal-number why
-      → TapeCuts image st log tape start predicted (cut-answer.Refused why) st start image predicted
-  tape-cuts-refused why some =
-      record {
-        answers = refused-told why (tape-kept image st log tape start) some;
-        state-after = refused-left why _ some;
-        start-after = refused-left why _ some;
-        image-after = refused-left why _ some;
-        predicted-after = refused-left why _ some;
-      }
+    pub refuses-cutting : (why : Refusal) → Ends false t tape answer t′ → answer ≡ Refused why → TapeCuts t tape (cut-answer.Refused why) t′
+    refuses-cutting why p e = record { answers = refused-told why _ (sym (p .answers) ∙ ap answer-number e); leaves = p .leaves }

@@ -27,19 +27,20 @@ pub fn tape_cut(
 {
     let ended = end_epoch(state, image, log, tape, start, predicted, false);
     let answer = ended.answer;
+    let next = ended.state;
     match answer {
         Answer::Done => {
             let rows = start + 1;
             let pieces = kept(state, image.len(), tape, rows);
             AfterTapeCut {
                 answer: CutAnswer::Kept(pieces),
-                state: ended.state,
+                state: next,
                 start: ended.start,
             }
         }
         Answer::Refused(why) => AfterTapeCut {
             answer: CutAnswer::Refused(why),
-            state: ended.state,
+            state: next,
             start: ended.start,
         },
     }

@@ -8,7 +8,7 @@ use Rattle.region.specs.Answer.{answer-number}
 use Rattle.region.specs.Limits.{const-persistence-chunk-size}
 use Rattle.pieces.specs.AsyncSpec.{size-to-chunks}
 use Rattle.records.proofs.Soundness.{Told, told-bytes, told-unsound}
-use Rattle.tape.specs.Write.{tape-sound}
+use Rattle.tape.specs.Memory.{tape-sound-for}
 use Rattle.epochs.specs.Epoch.{epoch-number}
 use Rattle.tape.specs.Ending.{as-foretold}
 use Rattle.tape.proofs.NumberLaws.{unsound, missized, tape-sound-there, ending-unsound, ending-bad-epoch, ending-not-foretold, ending-foretold}
@@ -28,7 +28,7 @@ told-here : (c : tie.After-enum-told) → let a = start c .args in Told (a .size
 told-here c = told-bytes _ (start c .args .state) _ (c .before .before .checked .ensures .0) (c .enum-told .given .1)
 
 -- past the two tests refusal 1 is out
-sound-here : (c : tie.Else1) → let a = start (c .before) .args in tape-sound (a .size) (a .state) (a .log) (a .predicted) ≡ true
+sound-here : (c : tie.Else1) → let a = start (c .before) .args in tape-sound-for (a .size) (a .state) (a .log) (a .predicted) ≡ true
 sound-here c = tape-sound-there _ (start (c .before) .args .state) _ _ (told-here (c .before) .good) (c .if1 .left)
 
 -- and past the epoch's, 10 and 9
@@ -46,12 +46,12 @@ returns c =
     let checked = c .before .before in
     let st = checked .before .before .args .state in
     let bad = told-unsound _ st _ (checked .checked .ensures .0) (c .enum-told2 .given .1) in
-    (sym (ending-unsound _ _ _ _ _ _ _ (unsound _ st _ _ bad)), checked .checked .ensures .1)
+    (sym (ending-unsound _ _ _ _ _ _ _ _ (unsound _ st _ _ bad)), checked .checked .ensures .1)
 
 returns-2 : tie.Need-returns-2
 returns-2 c =
     let bad = missized _ (start (c .before) .args .state) _ _ (told-here (c .before) .good) (c .if1 .taken) in
-    (sym (ending-unsound _ _ _ _ _ _ _ bad), c .before .before .before .checked .ensures .1)
+    (sym (ending-unsound _ _ _ _ _ _ _ _ bad), c .before .before .before .checked .ensures .1)
 
 epoch-requires : tie.Need-epoch-requires
 epoch-requires c κs =
@@ -66,14 +66,14 @@ returns-3 c =
     let told3 = c .before .before in
     let else1 = tested told3 in
     let foretold = told-is (c .before) ∙ not-true _ (c .if2 .taken) in
-    (sym (ending-not-foretold _ _ _ _ _ _ _ (sound-here else1) (epoch-none told3) foretold), else1 .before .before .before .checked .ensures .1)
+    (sym (ending-not-foretold _ _ _ _ _ _ _ _ (sound-here else1) (epoch-none told3) foretold), else1 .before .before .before .checked .ensures .1)
 
 returns-4 : tie.Need-returns-4
 returns-4 c =
     let told3 = c .before .before in
     let else1 = tested told3 in
     let foretold = told-is (c .before) ∙ not-false _ (c .if2 .left) in
-    (sym (ending-foretold _ _ _ _ _ _ _ (sound-here else1) (epoch-none told3) foretold), else1 .before .before .before .checked .ensures .1)
+    (sym (ending-foretold _ _ _ _ _ _ _ _ (sound-here else1) (epoch-none told3) foretold), else1 .before .before .before .checked .ensures .1)
 
 returns-5 : tie.Need-returns-5
 returns-5 c =
@@ -81,7 +81,7 @@ returns-5 c =
     let else1 = epoch .before in
     let why = c .enum-told4 .given in
     let number = ap answer-number (why .1) in (
-      number ∙ sym (ending-bad-epoch _ _ _ _ _ _ _ (sound-here else1) (why .0 .0) (sym (epoch .epoch .ensures) ∙ number)),
+      number ∙ sym (ending-bad-epoch _ _ _ _ _ _ _ _ (sound-here else1) (why .0 .0) (sym (epoch .epoch .ensures) ∙ number)),
       else1 .before .before .before .checked .ensures .1,
     )
 

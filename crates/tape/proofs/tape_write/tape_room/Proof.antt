@@ -4,9 +4,9 @@ use native.Mathlib.Omega.{arith}
 use mathlib.Core.Path.{_≡_, sym, ap, _∙_}
 use borrow.Author.Needs.{needs}
 use Rattle.region.specs.Answer.{answer-number}
+use Rattle.records.specs.State.{room-number}
+use Rattle.records.proofs.RoomLaws.{room-done}
 use Rattle.records.proofs.Soundness.{Room}
-use Rattle.writelog.specs.Write.{room-number}
-use Rattle.writelog.proofs.WriteLaws.{room-done}
 use Rattle.tape.proofs.NumberLaws.{tape-room-goes-on, tape-room-stops}
 use Rattle.tape.proofs.tape_write.tape_room.Statement.{statement}
 use Rattle.tape.proofs.tape_write.tape_room.Tie as tie
@@ -16,11 +16,11 @@ abbrev start : tie.After-enum-told → tie.Start
 start c = c .before .before .before .before
 
 -- there is room, where its test says so
-room-none : (c : tie.After-enum-told) → let a = start c .args in room-number (a .size) (a .state) (a .addr) (a .len) ≡ 0
+room-none : (c : tie.After-enum-told) → let a = start c .args in room-number (a .size) (a .state) (a .r) ≡ 0
 room-none c = sym (c .before .before .room .ensures) ∙ ap answer-number (c .enum-told .given .1)
 
-room-here : (c : tie.After-enum-told) → let a = start c .args in Room (a .size) (a .state) (a .addr) (a .len)
-room-here c = room-done _ (start c .args .state) _ _ (room-none c)
+room-here : (c : tie.After-enum-told) → let a = start c .args in Room (a .size) (a .state) (a .r)
+room-here c = room-done _ (start c .args .state) _ (room-none c)
 
 add-epoch : tie.Need-add-epoch
 add-epoch c = omega (arith, room-here (c .before) .few)
@@ -31,16 +31,13 @@ epoch-requires c κs = (omega (arith, room-here (c .before) .few), start (c .bef
 returns : tie.Need-returns
 returns c =
     let told = c .before .before in
-    let a = start told .args in
-    c .epoch .ensures ∙ sym (tape-room-goes-on (a .size) (a .state) (a .tape .now) (a .start) (a .addr) (a .len) (room-none told))
+    c .epoch .ensures ∙ sym (tape-room-goes-on _ _ _ _ _ _ (room-none told))
 
 returns-2 : tie.Need-returns-2
 returns-2 c =
-    let room = c .before .before in
-    let a = room .before .before .args in
     let why = c .enum-told2 .given in
     let number = ap answer-number (why .1) in
-    number ∙ sym (tape-room-stops (a .size) (a .state) (a .tape .now) (a .start) (a .addr) (a .len) (why .0 .0) (sym (room .room .ensures) ∙ number))
+    number ∙ sym (tape-room-stops _ _ _ _ _ _ (why .0 .0) (sym (c .before .before .room .ensures) ∙ number))
 
 pub tape-room-spec : {M : Type 1} → statement M
 tape-room-spec =

@@ -1,4 +1,4 @@
--- `tape::ending::ended` makes the predicted image the image, and its answer lies behind the epoch's rows, which are on the tape, so that no sum wraps.
+-- `tape::ending::settle` makes the predicted image the image, and its answer lies behind the epoch's rows, which are on the tape, so that no sum wraps.
 -- Assumes nothing.
 use Prim.Native.Nat.{ℕ, _+_, _*_}
 use native.Mathlib.Omega.{arith}
@@ -9,8 +9,8 @@ use Rattle.region.specs.Limits.{const-persistence-chunk-size}
 use Rattle.pieces.specs.AsyncSpec.{size-to-chunks}
 use Rattle.pieces.specs.Rows.{row-bytes}
 use Rattle.pieces.proofs.Laid.{update-whole}
-use Rattle.tape.proofs.ending.ended.Statement.{statement}
-use Rattle.tape.proofs.ending.ended.Tie as tie
+use Rattle.tape.proofs.ending.settle.Statement.{statement}
+use Rattle.tape.proofs.ending.settle.Tie as tie
 
 -- the places that the answers go back to
 abbrev predicted-at : tie.After-struct-known → tie.After-predict
@@ -43,14 +43,15 @@ returns c =
     let laid = c .before .before .before .before .before .lay in
     let predicted = predicted-at c .predict in
     let entry = start c in
-    let sized = predicted .kept .1 .1 .1 .1 .1 .0 ∙ entry .pre .sized in (
-      ap (λ (k : ℕ). entry .args .start + 1 + k) (rows-are c),
-      laid .ensures ∙ update-whole (entry .args .image .now) _ (sym sized) ∙ predicted .ensures,
-      predicted .ensures,
-    )
+    let sized = predicted .kept .1 .1 .1 .1 .1 .0 ∙ entry .pre .sized in
+    record {
+      next-start = ap (λ (k : ℕ). entry .args .start + 1 + k) (rows-are c);
+      image-after = laid .ensures ∙ update-whole (entry .args .image .now) _ (sym sized) ∙ predicted .ensures;
+      predicted-after = predicted .ensures;
+    }
 
-pub ended-spec : {M : Type 1} → statement M
-ended-spec =
+pub settle-spec : {M : Type 1} → statement M
+settle-spec =
     tie.close
     (tie.spec
     (λ c κs. search needs)
