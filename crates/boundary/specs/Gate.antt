@@ -1,34 +1,26 @@
 -- What skaldrift_open, skaldrift_judge and skaldrift_gate promise: the number, and every lent word and byte afterwards. Each is the call of `gate` at the
--- state that the words say; opening asks only that they are as many as a state has.
+-- desk that the words say; opening asks only that they are as many as a state has.
 use Prim.Native.Nat.{ℕ}
 use mathlib.Core.Path.{_≡_}
 use mathlib.Core.List.{List}
-use lib.ListN.{length}
 use Rattle.region.specs.Answer.{if-done}
-use Rattle.records.specs.State.{appended, log-with}
-use Rattle.gate.specs.Opening.{fresh, open-number}
-use Rattle.gate.specs.Judgement.{judge-report, judge-number, judge-work}
-use Rattle.boundary.specs.Words.{state-of, words-of, of-state, reported}
+use Rattle.pieces.specs.AsyncSpec.{Write}
+use Rattle.records.specs.Desk.{Desk, with-write, opened-desk}
+use Rattle.gate.specs.Opening.{open-number}
+use Rattle.gate.specs.Judgement.{judgement, judgement-work, judge-report, judge-number}
+use Rattle.boundary.specs.Words.{reported}
+use Rattle.boundary.specs.Lent.{Lent, desk-of, lent-of, plainly, at-desk, Does}
 
-abbrev pub skaldrift-open-number : (words image log sheet : List ℕ) → ℕ
-skaldrift-open-number words image log sheet = of-state words 1 (λ st. open-number image log sheet)
+abbrev pub SkaldriftOpen : (m : Lent) (sheet : List ℕ) (number : ℕ) (m′ : Lent) → Type 0
+SkaldriftOpen m sheet number m′ = Does plainly (λ d. open-number d sheet) opened-desk m number m′
 
-pub record SkaldriftOpen (words image log sheet : List ℕ) (number : ℕ) (words′ : List ℕ) : Type 0 where
-  pub answers : number ≡ skaldrift-open-number words image log sheet
-  pub words-after : words′ ≡ if-done (skaldrift-open-number words image log sheet) (words-of fresh) words
+module _ (m : Lent) (sheet work : List ℕ) (w : Write) (report : ℕ) where
+  -- `report` gets n where the write is admitted and m where it is denied, and keeps what it held otherwise
+  pub record SkaldriftJudge (number : ℕ) (work′ : List ℕ) (report′ : ℕ) : Type 0 where
+    pub answers : number ≡ at-desk plainly m 1 (λ d. judge-number d sheet work w)
+    pub fills : work′ ≡ at-desk plainly m work (λ d. judgement-work d w work (judgement d sheet work w))
+    pub reports : report′ ≡ at-desk plainly m report (λ d. reported (judge-report d sheet work w) report)
 
-abbrev pub skaldrift-judge-number : (words image log sheet work : List ℕ) (addr : ℕ) (bytes : List ℕ) → ℕ
-skaldrift-judge-number words image log sheet work addr bytes = of-state words 1 (λ st. judge-number image st log sheet work addr bytes)
-
--- `report` gets n where the write is admitted and m where it is denied, and keeps what it held otherwise
-pub record SkaldriftJudge (words image log sheet work : List ℕ) (addr : ℕ) (bytes : List ℕ) (report number : ℕ) (work′ : List ℕ) (report′ : ℕ) : Type 0 where
-  pub answers : number ≡ skaldrift-judge-number words image log sheet work addr bytes
-  pub work-after : work′ ≡ of-state words work (λ st. judge-work image st log sheet work addr bytes)
-  pub report-after : report′ ≡ of-state words report (λ st. reported (judge-report image st log sheet work addr bytes) report)
-
-pub record SkaldriftGate (words image log sheet work : List ℕ) (addr : ℕ) (bytes : List ℕ) (report number : ℕ) (words′ log′ work′ : List ℕ) (report′ : ℕ) : Type 0 where
-  pub answers : number ≡ skaldrift-judge-number words image log sheet work addr bytes
-  pub words-after : words′ ≡ if-done (skaldrift-judge-number words image log sheet work addr bytes) (words-of (appended (state-of words) addr (length bytes))) words
-  pub log-after : log′ ≡ if-done (skaldrift-judge-number words image log sheet work addr bytes) (log-with (state-of words) log bytes) log
-  pub work-after : work′ ≡ of-state words work (λ st. judge-work image st log sheet work addr bytes)
-  pub report-after : report′ ≡ of-state words report (λ st. reported (judge-report image st log sheet work addr bytes) report)
+  pub record SkaldriftGate (number : ℕ) (m′ : Lent) (work′ : List ℕ) (report′ : ℕ) : Type 0 where
+    pub judges : SkaldriftJudge number work′ report′
+    pub does : Does plainly (λ d. judge-number d sheet work w) (λ d. with-write d w) m number m′

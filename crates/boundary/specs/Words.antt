@@ -2,10 +2,9 @@
 -- another length is refusal 1 at every call.
 use Prim.Native.Nat.{ℕ, _+_, _*_}
 use mathlib.Core.List.{List, [], _∷_}
-use lib.Dec.{eqb}
-use lib.ListN.{length, getD, drop}
+use lib.ListN.{getD, drop}
 use Rattle.region.specs.Limits.{writes-limit}
-use Rattle.region.specs.Answer.{Report, unless}
+use Rattle.region.specs.Answer.{Report}
 use Rattle.records.specs.declared.state.Record.{Record}
 use Rattle.records.specs.declared.state.State.{State}
 
@@ -31,7 +30,3 @@ words-of st = st .count ∷ record-words (st .records)
 -- `report` afterwards: the n, m or kept that a call reports, or what it held where the call reports nothing
 abbrev pub reported : Report → ℕ → ℕ
 reported r held = getD (r .values) 0 held
-
--- what a call makes of the state that the words say, where they are as many as a state has, and its refusal otherwise
-abbrev pub of-state {ℓ} : {A : Type ℓ} → List ℕ → A → (State → A) → A
-of-state words refused call = unless (eqb (length words) state-words) refused (call (state-of words))
