@@ -1,7 +1,7 @@
 -- The records of a log in a local array, lent to a call as a slice of structs: they are taken out of the array's cell for a new lifetime, and when it is
 -- over they are back there, or others of the same number. Assumes nothing.
 use Prim.Native.Nat.{ℕ}
-use mathlib.Core.Path.{_≡_, refl, sym, _∙_, subst}
+use mathlib.Core.Path.{_≡_, refl, sym, subst}
 use mathlib.Core.List.{List, [], _∷_, map}
 use lib.Dec.{T as Holds, lit<}
 use lib.ListN.{length}
@@ -61,7 +61,7 @@ abbrev cell : (b : ℕ) (xs : List Record) → Fml
 cell b xs = fat fullShare array b 0 (of-list xs)
 
 -- what is left with the lender
-abbrev pub shared-part : (b : ℕ) (xs : List Record) → Fml
+abbrev shared-part : (b : ℕ) (xs : List Record) → Fml
 shared-part b xs = arr-parts (shares R) (length xs) .part fullShare xs b 0
 
 module _ {M : Type 1} (𝓤 : URA M) (H : Heap 𝓤) (A : Atoms 𝓤) where
