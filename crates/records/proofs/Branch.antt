@@ -68,29 +68,31 @@ module _ {M : Type 1} {𝓤 : URA M} {H : Heap 𝓤} {A : Atoms 𝓤} {K : Type 
   returns-if t o held failed = first t $ branches t o held (λ h. skips t $ record { prf = failed h .prf })
 
 module _ {M : Type 1} (𝓤 : URA M) (H : Heap 𝓤) (𝓜 : Model 𝓤 H) (𝓖 : GhostRules 𝓤 H) (𝓡 : Running 𝓤 H 𝓜) (γ : routine.Env) where
-  abbrev C : Calls 𝓤 H
-  C = tables 𝓤 H 𝓜 𝓡 γ .C
+  abbrev calls : Calls 𝓤 H
+  calls = tables 𝓤 H 𝓜 𝓡 γ .C
 
-  abbrev Λ : Loops 𝓤 H
-  Λ = tables 𝓤 H 𝓜 𝓡 γ .Λ
+  abbrev loops : Loops 𝓤 H
+  loops = tables 𝓤 H 𝓜 𝓡 γ .Λ
 
-  abbrev W : Given 𝓤 H (𝓖 .A)
-  W = givenOf 𝓤 H 𝓜 𝓖
+  abbrev rules : Given 𝓤 H (𝓖 .A)
+  rules = givenOf 𝓤 H 𝓜 𝓖
 
-  -- a function that asks nothing of its caller, walked at the values that its parameters spell
-  module _ (T : Ended) (hs : Stays (T .signature .params) (T .kept)) (c : Clauses 𝓤 T) (k : Name) (f : Fn) where
-    pub by-walk : Closed 𝓤 H C Λ k f → AllGo 𝓤 H (𝓖 .A) W (T .signature .lifetimes) (T .signature .params) (T .kept) hs
-        → let types = typesAt (T .signature .params) in (sp : (κs : Lfts (T .signature .lifetimes)) → Spells (types κs))
-        → ((κs : Lfts (T .signature .lifetimes)) → Tellss (types κs) (Ises (types κs)) (sp κs))
-        → (FmC 𝓤 H (W .laws) C → (κs : Lfts (T .signature .lifetimes)) (qs : Shares (T .signature .lifetimes))
-        (bounds : AllOutlive (T .signature .lifetimes) (T .signature .outlives) κs) (a : Args (T .signature) κs) (g : c κs a .ghost)
-        → let at = valss (types κs) (sp κs) a in Are (types κs) (Ises (types κs)) a at
-        → ent 𝓤 (onEntry 𝓤 H (𝓖 .A) (T .signature) κs qs a at) (WpFn 𝓤 H C Λ f (flat (types κs) at) (walkOf 𝓤 H (𝓖 .A) T hs c .post ((κs, qs, bounds, a, at), g))))
-        → Triple 𝓤 (C k) (tripleOf 𝓤 H (𝓖 .A) (T .signature) (closing 𝓤 H (𝓖 .A) T c))
+  -- the function f, of the name k, asks nothing of its caller, and is walked at the values that its parameters spell
+  module _ (e : Ended) (hs : Stays (e .signature .params) (e .kept)) (c : Clauses 𝓤 e) (k : Name) (f : Fn) where
+    pub by-walk : let n = e .signature .lifetimes in let types = typesAt (e .signature .params) in
+        Closed 𝓤 H calls loops k f → AllGo 𝓤 H (𝓖 .A) rules n (e .signature .params) (e .kept) hs
+        → (sp : (κs : Lfts n) → Spells (types κs)) → ((κs : Lfts n) → Tellss (types κs) (Ises (types κs)) (sp κs))
+        → (FmC 𝓤 H (rules .laws) calls
+        → (κs : Lfts n) (qs : Shares n) (bounds : AllOutlive n (e .signature .outlives) κs) (a : Args (e .signature) κs) (g : c κs a .ghost)
+        → let vs = valss (types κs) (sp κs) a in Are (types κs) (Ises (types κs)) a vs
+        → ent 𝓤 (onEntry 𝓤 H (𝓖 .A) (e .signature) κs qs a vs)
+        (WpFn 𝓤 H calls loops f (flat (types κs) vs) (walkOf 𝓤 H (𝓖 .A) e hs c .post ((κs, qs, bounds, a, vs), g))))
+        → Triple 𝓤 (calls k) (tripleOf 𝓤 H (𝓖 .A) (e .signature) (closing 𝓤 H (𝓖 .A) e c))
     unfolding tablesOf
-    by-walk closed go sp tells walk =
+    by-walk closed gone sp told walk =
         let 𝓣 = tablesOf 𝓤 H 𝓜 (tables 𝓤 H 𝓜 𝓡 γ) in
-        entered 𝓤 H (tripleOf 𝓤 H (𝓖 .A) (T .signature) (closing 𝓤 H (𝓖 .A) T c)) C Λ k f closed
-        (walk-meets 𝓤 H (𝓖 .A) T hs W go c (WpFn 𝓤 H C Λ f) (WpFn-mono 𝓤 H (W .laws) 𝓣 f)
-        (walked 𝓤 H (𝓖 .A) T hs c (WpFn 𝓤 H C Λ f) sp tells
-        (λ κs qs bounds a g are. via 𝓤 _ (fst∗ 𝓤 _ (c κs a .requires g)) (walk (fmOf 𝓤 H (W .laws) 𝓣) κs qs bounds a g are))))
+        let run = WpFn 𝓤 H calls loops f in
+        entered 𝓤 H (tripleOf 𝓤 H (𝓖 .A) (e .signature) (closing 𝓤 H (𝓖 .A) e c)) calls loops k f closed
+        (walk-meets 𝓤 H (𝓖 .A) e hs rules gone c run (WpFn-mono 𝓤 H (rules .laws) 𝓣 f)
+        (walked 𝓤 H (𝓖 .A) e hs c run sp told
+        (λ κs qs bounds a g are. via 𝓤 _ (fst∗ 𝓤 _ (c κs a .requires g)) (walk (fmOf 𝓤 H (rules .laws) 𝓣) κs qs bounds a g are))))

@@ -57,39 +57,40 @@ lent b γ xs = record { ptr = (b, 0); name = γ; now = xs }
 abbrev pub slice : (b : ℕ) (xs : List Record) → Val
 slice b xs = sliceVal (b, 0) (length xs)
 
+-- the array's cell
 abbrev cell : (b : ℕ) (xs : List Record) → Fml
 cell b xs = fat fullShare array b 0 (of-list xs)
 
--- what is left with the lender
+-- what the lender has while they are shared
 abbrev shared-part : (b : ℕ) (xs : List Record) → Fml
 shared-part b xs = arr-parts (shares R) (length xs) .part fullShare xs b 0
 
-module _ {M : Type 1} (𝓤 : URA M) (H : Heap 𝓤) (A : Atoms 𝓤) where
-  module _ (W : Given 𝓤 H A) where
-    pub list-makes : Makes 𝓤 H A Records (Is Records)
-    list-makes = array-makes 𝓤 H A W R (makes 𝓤 H A) writes-limit
+module _ {M : Type 1} (𝓤 : URA M) (H : Heap 𝓤) (A : Atoms 𝓤) (W : Given 𝓤 H A) where
+  pub list-makes : Makes 𝓤 H A Records (Is Records)
+  list-makes = array-makes 𝓤 H A W R (makes 𝓤 H A) writes-limit
 
-    pub typed-list : (xs : List Record) → Is Records xs (of-list xs ∷ []) → Holds (hasTy array (of-list xs)) × WT (of-list xs)
-    typed-list xs is = array-lawful 𝓤 H A W R (lawful 𝓤 H A W) writes-limit .typed xs (of-list xs ∷ []) is .0
+  pub typed-list : (xs : List Record) → Is Records xs (of-list xs ∷ []) → Holds (hasTy array (of-list xs)) × WT (of-list xs)
+  typed-list xs is = array-lawful 𝓤 H A W R (lawful 𝓤 H A W) writes-limit .typed xs (of-list xs ∷ []) is .0
 
-    taken : (b : ℕ) (xs : List Record) → Is Records xs (of-list xs ∷ []) → ent 𝓤 (H .at fullShare array b 0 (of-list xs)) (sem 𝓤 H A (row R fullShare xs b 0))
-    unfolding partOf
-    taken b xs is =
-        qed W (‵ (cell b xs) ∷ []) ∵
-        use1 W (‵ (cellAt fullShare (Records .mir) (of-list xs ∷ []) b 0)) (W .laws .at-raw fullShare array b 0 (of-list xs)) $
-        owned ! Records (Is Records) list-makes xs _ is $ move ! (1 ∷ 0 ∷ []) $ fjoin ! $
-        fpack ! (List Val) (λ us. fsep (cellAt fullShare (Records .mir) us b 0) (Records .own xs us)) (of-list xs ∷ []) $
-        use1 W (‵ (arr-parts (shares R) writes-limit .part fullShare xs b 0)) (array-apart 𝓤 H A W R fullShare tt writes-limit xs b 0) $ fsplit ! $ drop ! $ done !
+  -- between the array's cell and the row of its records
+  taken : (b : ℕ) (xs : List Record) → Is Records xs (of-list xs ∷ []) → ent 𝓤 (H .at fullShare array b 0 (of-list xs)) (sem 𝓤 H A (row R fullShare xs b 0))
+  unfolding partOf
+  taken b xs is =
+      qed W (‵ (cell b xs) ∷ []) ∵
+      use1 W (‵ (cellAt fullShare (Records .mir) (of-list xs ∷ []) b 0)) (W .laws .at-raw fullShare array b 0 (of-list xs)) $
+      owned ! Records (Is Records) list-makes xs _ is $ move ! (1 ∷ 0 ∷ []) $ fjoin ! $
+      fpack ! (List Val) (λ us. fsep (cellAt fullShare (Records .mir) us b 0) (Records .own xs us)) (of-list xs ∷ []) $
+      use1 W (‵ (arr-parts (shares R) writes-limit .part fullShare xs b 0)) (array-apart 𝓤 H A W R fullShare tt writes-limit xs b 0) $ fsplit ! $ drop ! $ done !
 
-    given-back : (b : ℕ) (xs : List Record) → length xs ≡ writes-limit
-        → ent 𝓤 (sem 𝓤 H A (row R fullShare xs b 0)) (guard 𝓤 (Is Records xs (of-list xs ∷ [])) (H .at fullShare array b 0 (of-list xs)))
-    unfolding partOf
-    given-back b xs e =
-        qed W (‵ (row R fullShare xs b 0) ∷ []) ∵ feqI ! ℕ (length xs) writes-limit e $ fjoin ! $
-        use1 W (‵ (partAt Records fullShare xs b 0)) (array-whole 𝓤 H A W R fullShare writes-limit xs b 0) $ fpick ! (λ vs. fsplit ! $ move ! (1 ∷ []) $
-        peeks ! Records (Is Records) (shows 𝓤 H A Records) xs vs (λ is. let t = list-tells xs vs is in drop ! $
-        rewrite ! 0 (λ (us : List Val). ‵ (cellAt fullShare (Records .mir) us b 0)) t refl $
-        use1 W (‵ (cell b xs)) (W .laws .raw-at fullShare array b 0 (of-list xs)) $ check ! (subst (Is Records xs) t is) $ done !))
+  given-back : (b : ℕ) (xs : List Record) → length xs ≡ writes-limit
+      → ent 𝓤 (sem 𝓤 H A (row R fullShare xs b 0)) (guard 𝓤 (Is Records xs (of-list xs ∷ [])) (H .at fullShare array b 0 (of-list xs)))
+  unfolding partOf
+  given-back b xs e =
+      qed W (‵ (row R fullShare xs b 0) ∷ []) ∵ feqI ! ℕ (length xs) writes-limit e $ fjoin ! $
+      use1 W (‵ (partAt Records fullShare xs b 0)) (array-whole 𝓤 H A W R fullShare writes-limit xs b 0) $ fpick ! (λ vs. fsplit ! $ move ! (1 ∷ []) $
+      peeks ! Records (Is Records) (shows 𝓤 H A Records) xs vs (λ is. let t = list-tells xs vs is in drop ! $
+      rewrite ! 0 (λ (us : List Val). ‵ (cellAt fullShare (Records .mir) us b 0)) t refl $
+      use1 W (‵ (cell b xs)) (W .laws .raw-at fullShare array b 0 (of-list xs)) $ check ! (subst (Is Records xs) t is) $ done !))
 
 module _ {M : Type 1} {𝓤 : URA M} {H : Heap 𝓤} {A : Atoms 𝓤} {K : Type 0} {W : Given 𝓤 H A} {Γ : List (Item 𝓤)} {G : Goal 𝓤 H} where
   -- the array's cell is lent as a shared slice, and is back

@@ -25,11 +25,10 @@ use Rattle.records.proofs.state.Record.Laws as T′
 abbrev pub R : RattleType
 R = T.the-row
 
--- its machine type
+-- a record's machine type and value
 abbrev pub machine : Ty
 machine = T′.mir
 
--- a record's machine value
 abbrev pub val : Record → Val
 val = T′.lowered
 
@@ -39,12 +38,16 @@ vals = LL.vals T.the-type T′.the-laws
 pub tells : Tells R (Is R) vals
 tells = LL.tells T.the-type T′.the-laws
 
--- the zero record: it is one, and its literal has these operands
+-- the zero record: it is a record, and what its literal makes, which is all that depends on how many fields a record has
 pub zero-is : Is R no-record (vals no-record)
 zero-is = LL.owes T.the-type T′.the-laws no-record ((refl, lit< tt), ((refl, lit< tt), tt))
 
 abbrev zero-fields : List Operand
 zero-fields = int w64 0 ∷ int w64 0 ∷ []
+
+pub zero-literal : {M : Type 1} {𝓤 : URA M} {H : Heap 𝓤} {A : Atoms 𝓤} {K : Type 0} {W : Given 𝓤 H A} {Γ : List (Item 𝓤)} {E : Env 𝓤 H}
+    → K → Rv K W Γ E (aggregate zero-fields) (val no-record)
+zero-literal t = agg t (and-then t (lit t tt) (and-then t (lit t tt) (no-more t)))
 
 -- how many bytes a record takes
 abbrev pub bytes : ℕ
@@ -53,10 +56,6 @@ bytes = size machine
 -- the place of record i of n is inside the bytes that a list of n has
 pub inside : (i n : ℕ) → i < n → n * bytes < 2 ^ 63 → i * bytes < 2 ^ 64
 inside i n l g = omega arith
-
-pub zero-literal : {M : Type 1} {𝓤 : URA M} {H : Heap 𝓤} {A : Atoms 𝓤} {K : Type 0} {W : Given 𝓤 H A} {Γ : List (Item 𝓤)} {E : Env 𝓤 H}
-    → K → Rv K W Γ E (aggregate zero-fields) (val no-record)
-zero-literal t = agg t (and-then t (lit t tt) (and-then t (lit t tt) (no-more t)))
 
 module _ {M : Type 1} (𝓤 : URA M) (H : Heap 𝓤) (A : Atoms 𝓤) where
   pub makes : Makes 𝓤 H A R (Is R)
