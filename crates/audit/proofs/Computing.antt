@@ -6,7 +6,8 @@ use Rattle.pieces.specs.Choice.{touched, points, row-of, rows-of}
 use Rattle.pieces.specs.Rows.{row-at, rows-at, set-bits, row-filled, rows-filled}
 use Rattle.pieces.specs.Kept.{kept, kept-of}
 use Rattle.cuts.specs.Search.{finding, finding-from}
-use Rattle.sheet.specs.Sheet.{clause-holds, empty-holds, join, holds, field, read-field, read-tagged, read-entry, read-members, read-rest, read-rule, read-edition, filling, read-filling, read-whole, read-sheet, well-formed, obeys}
+use Rattle.bits.specs.Bits.{field, read-field}
+use Rattle.sheet.specs.Sheet.{clause-holds, empty-holds, join, holds, read-tagged, read-entry, read-members, read-rest, read-rule, read-edition, filling, read-filling, read-whole, read-sheet, well-formed, obeys}
 use Rattle.records.specs.State.{together, writes-of, records-inside, sound}
 use Rattle.writelog.specs.Write.{write-number}
 use Rattle.writelog.specs.Flush.{flush-number}

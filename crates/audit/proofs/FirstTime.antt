@@ -14,7 +14,8 @@ use Rattle.region.specs.Limits.{image-limit, log-limit}
 use Rattle.region.specs.Answer.{unless}
 use Rattle.region.specs.declared.Answer.the-variants as answer
 use Rattle.region.proofs.AnswerLaws.{done-changed, changed}
-use Rattle.sheet.specs.Sheet.{byte-bits, obeys}
+use Rattle.bits.specs.Bits.{byte-bits}
+use Rattle.sheet.specs.Sheet.{obeys}
 use Rattle.records.specs.declared.state.State.{State}
 use Rattle.records.proofs.Soundness.{facts-sound}
 use Rattle.writelog.proofs.FlushLaws.{flushes-done}

@@ -10,9 +10,11 @@ use mathlib.Core.Option.{some}
 use lib.Dec.{leb, ltb, eqb}
 use lib.ListN.{length, getD}
 use borrow.Author.Tests.{le-leb, lt-leb, eq-eqb, ne-eqb}
-use Rattle.sheet.specs.Sheet.{got, address-bits, byte-bits, bit-count, field, read-field, clause, range, clause-holds, empty-holds, join, holds, read-tagged, read-entry, read-members, read-rest, read-rule, read-edition, filling, read-filling, read-whole, read-sheet, well-formed, obeys}
-use Rattle.sheet.proofs.Window.{word, word-field}
-use Rattle.sheet.proofs.Reading.{field-there, entry-range}
+use Rattle.bits.specs.Bits.{got, byte-bits, bit-count, field, read-field}
+use Rattle.sheet.specs.Sheet.{address-bits, clause, range, clause-holds, empty-holds, join, holds, read-tagged, read-entry, read-members, read-rest, read-rule, read-edition, filling, read-filling, read-whole, read-sheet, well-formed, obeys}
+use Rattle.bits.proofs.Window.{word, word-field}
+use Rattle.bits.proofs.Reading.{field-there}
+use Rattle.sheet.proofs.Reading.{entry-range}
 use Rattle.example.specs.Valid.{valid, app-rule, app-sheet}
 
 -- a list of bytes, entry by entry

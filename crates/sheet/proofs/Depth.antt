@@ -8,7 +8,8 @@ use Prim.Native.Nat.{ℕ, zero, suc, _≤_}
 use native.Mathlib.Omega.{arith}
 use lib.ListN.{length}
 use lib.Dec.{leb, eqb}
-use Rattle.sheet.specs.Sheet.{Rule, clause, group, Rules, cons, depth, deepest, Found, malformed, got, on-got, only-if, Reader, Entry, one, many, max-depth, max-bytes, edition-bits, read-field, read-entry, read-members, read-rest, read-rule, the-edition, filling, read-edition, read-filling, read-whole, read-sheet, rule-of}
+use Rattle.bits.specs.Bits.{Found, malformed, got, on-got, only-if, Reader, read-field}
+use Rattle.sheet.specs.Sheet.{Rule, clause, group, Rules, cons, depth, deepest, Entry, one, many, max-depth, max-bytes, edition-bits, read-entry, read-members, read-rest, read-rule, the-edition, filling, read-edition, read-filling, read-whole, read-sheet, rule-of}
 
 -- what is got, if anything is, has P
 abbrev Gets : {A : Type 0} → (A → Type 0) → Found A → Type 0

@@ -5,28 +5,30 @@ use mathlib.Core.Bool.{Bool, true, false, not, Bool·beq}
 use mathlib.Core.List.{List}
 use Prim.Native.Nat.{ℕ, suc, _-_, _<_}
 use native.Mathlib.Omega.{arith}
-use Rattle.sheet.specs.Sheet.{Found, malformed, got, on-got, Reader, Kind, all, any, Entry, one, many, Rule, Rules, group, cons, empty-holds, join, holds, members-hold, read-entry, read-members, read-rest, read-rule}
-use Rattle.sheet.specs.Inner.{kind-of, is-all, head-told, step-told, group-told}
-use Rattle.sheet.specs.declared.rules.Head.{Head}
-use Rattle.sheet.specs.declared.rules.Head.the-variants.{Bad, Clause as Judged-clause, Group}
+use Rattle.bits.specs.Bits.{Found, malformed, got, on-got, Reader}
+use Rattle.sheet.specs.Sheet.{Kind, all, any, Entry, one, many, Rule, Rules, group, cons, empty-holds, join, clause-holds, holds, members-hold, read-entry, read-members, read-rest, read-rule}
+use Rattle.sheet.specs.Inner.{clause-of, kind-of, is-all, entry-told, step-told, group-told}
+use Rattle.sheet.specs.declared.entry.Entry.{Entry as EntryTold}
+use Rattle.sheet.specs.declared.entry.Entry.the-variants.{Malformed as No-entry, One, Many}
 use Rattle.sheet.specs.declared.rules.Step.{Step}
-use Rattle.sheet.specs.declared.rules.Step.the-variants.{Broken, Good}
+use Rattle.sheet.specs.declared.rules.Step.the-variants.{Malformed, Good}
+use Rattle.sheet.proofs.Reading.{clause-of-told}
 
 one-more : {n : ℕ} → (n ≡ 0 → ⊥) → suc (n - 1) ≡ n
 one-more h = omega arith
 
--- A rule, by its head.
+-- A rule, by its entry.
 
 module _ (image s : List ℕ) where
-  pub no-levels : (at : ℕ) {levels : ℕ} → levels ≡ 0 → Broken ≡ step-told image (read-rule levels s at)
+  pub no-levels : (at : ℕ) {levels : ℕ} → levels ≡ 0 → Malformed ≡ step-told image (read-rule levels s at)
   unfolding read-rule
   no-levels at e = rw e
 
-  -- what judging a rule answers, once its head is judged
-  abbrev pub by-head : Head → ℕ → Step
-  by-head Bad d = Broken
-  by-head (Judged-clause next h) d = Good next h
-  by-head (Group next b n) d = group-told (kind-of b) image (read-members n (read-rule d) s next)
+  -- what judging a rule answers, once its entry is read
+  abbrev pub by-entry : EntryTold → ℕ → Step
+  by-entry No-entry d = Malformed
+  by-entry (One c next) d = Good next (clause-holds (clause-of c) image image)
+  by-entry (Many b n next) d = group-told (kind-of b) image (read-members n (read-rule d) s next)
 
   told-members : (k : Kind) (f : Found Rules)
       → step-told image (on-got f (λ ms next. got (group k ms) next)) ≡ group-told (kind-of (is-all k)) image f
@@ -37,26 +39,26 @@ module _ (image s : List ℕ) where
   told-members any (got ms next) = refl
 
   told-rest : (d : ℕ) (f : Found Entry)
-      → step-told image (on-got f (λ e next. read-rest (read-rule d) e s next)) ≡ by-head (head-told image f) d
+      → step-told image (on-got f (λ e next. read-rest (read-rule d) e s next)) ≡ by-entry (entry-told f) d
   unfolding holds read-rest
   told-rest d malformed = refl
-  told-rest d (got (one c) next) = refl
+  told-rest d (got (one c) next) = rw (clause-of-told c)
   told-rest d (got (many all n) next) = told-members all (read-members n (read-rule d) s next)
   told-rest d (got (many any n) next) = told-members any (read-members n (read-rule d) s next)
 
-  -- the answer of one case of the head that the code has found
-  pub rule-by-head : (at levels : ℕ) {x h : Head} → (levels ≡ 0 → ⊥) → x ≡ head-told image (read-entry s at) → x ≡ h
-      → by-head h (levels - 1) ≡ step-told image (read-rule levels s at)
+  -- the answer of one case of the entry that the code has found
+  pub rule-by-entry : (at levels : ℕ) {x e : EntryTold} → (levels ≡ 0 → ⊥) → x ≡ entry-told (read-entry s at) → x ≡ e
+      → by-entry e (levels - 1) ≡ step-told image (read-rule levels s at)
   unfolding read-rule
-  rule-by-head at levels some told e =
-      ap (λ (y : Head). by-head y (levels - 1)) (sym e ∙ told) ∙ sym (told-rest (levels - 1) (read-entry s at))
+  rule-by-entry at levels some told found =
+      ap (λ (y : EntryTold). by-entry y (levels - 1)) (sym found ∙ told) ∙ sym (told-rest (levels - 1) (read-entry s at))
       ∙ ap (λ (n : ℕ). step-told image (read-rule n s at)) (one-more some)
 
 -- A group, by its members from the first on.
 
 -- what is to be answered where the members so far come to acc, and these are left
 abbrev pub left-told : Kind → (image : List ℕ) → Bool → Found Rules → Step
-left-told k image acc malformed = Broken
+left-told k image acc malformed = Malformed
 left-told k image acc (got ms next) = Good next (join k acc (members-hold ms k image image))
 
 pub nothing-joined : (b : Bool) (image : List ℕ) (f : Found Rules) → left-told (kind-of b) image b f ≡ group-told (kind-of b) image f
@@ -114,10 +116,10 @@ module _ (k : Kind) (image : List ℕ) (member : Reader Rule) (s : List ℕ) whe
   abbrev from-member : ℕ → Found Rule → Found Rules
   from-member n f = on-got f (λ r next. on-got (read-members n member s next) (λ ms end. got (cons r ms) end))
 
-  broken-told : (acc : Bool) (n : ℕ) (f : Found Rule) {x : Step} → x ≡ step-told image f → x ≡ Broken
-      → left-told k image acc (from-member n f) ≡ Broken
-  broken-told acc n malformed told e = refl
-  broken-told acc n (got r next) told e = cc
+  malformed-told : (acc : Bool) (n : ℕ) (f : Found Rule) {x : Step} → x ≡ step-told image f → x ≡ Malformed
+      → left-told k image acc (from-member n f) ≡ Malformed
+  malformed-told acc n malformed told e = refl
+  malformed-told acc n (got r next) told e = cc
 
   good-told : (acc : Bool) (n : ℕ) (f : Found Rule) {x : Step} {next : ℕ} {h : Bool} → x ≡ step-told image f → x ≡ Good next h
       → left-told k image acc (from-member n f) ≡ left-told k image (join k acc h) (read-members n member s next)
@@ -134,9 +136,9 @@ module _ (k : Kind) (image : List ℕ) (member : Reader Rule) (s : List ℕ) whe
       let e : left ≡ suc (left - 1) = omega arith in
       ap (λ (n : ℕ). left-told k image acc (read-members n member s at)) e
 
-  pub member-broken : (acc : Bool) (at : ℕ) {left : ℕ} {x : Step} → 0 < left → x ≡ step-told image (member s at) → x ≡ Broken
-      → left-told k image acc (read-members left member s at) ≡ Broken
-  member-broken acc at {left} some told e = one-of acc at some ∙ broken-told acc (left - 1) (member s at) told e
+  pub member-malformed : (acc : Bool) (at : ℕ) {left : ℕ} {x : Step} → 0 < left → x ≡ step-told image (member s at) → x ≡ Malformed
+      → left-told k image acc (read-members left member s at) ≡ Malformed
+  member-malformed acc at {left} some told e = one-of acc at some ∙ malformed-told acc (left - 1) (member s at) told e
 
   pub member-judged : (acc : Bool) (at : ℕ) {left : ℕ} {x : Step} {next : ℕ} {h : Bool} → 0 < left → x ≡ step-told image (member s at) → x ≡ Good next h
       → left-told k image acc (read-members left member s at) ≡ left-told k image (join k acc h) (read-members (left - 1) member s next)

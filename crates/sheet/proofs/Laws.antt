@@ -2,16 +2,11 @@
 -- sheet of edition 1 doesn't look at the image before. Assumes nothing.
 use mathlib.Core.Path.{_≡_, refl, ap, _∙_}
 use mathlib.Core.Logic.{_↔_}
-use mathlib.Core.Bool.{Bool, true, false, _&&_}
+use mathlib.Core.Bool.{Bool, true, false}
 use mathlib.Core.List.{List}
 use mathlib.Core.Option.{Option, none, some}
-use Prim.Native.Nat.{ℕ, _≤_, _<_}
-use native.Mathlib.Omega.{arith}
-use native.Mathlib.Decide.{decLe}
-use lib.Dec.{leb, ltb}
-use borrow.Author.Tests.{le-leb, lt-leb}
-use lib.ListN.{length, getD}
-use Rattle.sheet.specs.Sheet.{Clause, range, same, Rule, clause, group, Rules, nil, cons, Kind, clause-holds, join, holds, members-hold, read-sheet, well-formed, obeys, rule-holds, is-rule, verdict, judged}
+use Prim.Native.Nat.{ℕ}
+use Rattle.sheet.specs.Sheet.{Clause, range, same, Rule, clause, group, Rules, nil, cons, Kind, clause-holds, join, holds, members-hold, read-sheet, well-formed, obeys, rule-holds, is-rule, judged-by, judged}
 use Rattle.sheet.specs.declared.Judged.the-variants.{Malformed, Obeys, Breaks}
 
 -- A sheet of edition 1 looks at the image after alone.
@@ -24,7 +19,7 @@ unseen-by-clause (same a b) before other after = refl
 mutual
   unfolding holds
 
-  pub unseen-by-rule : (r : Rule) (before other after : List ℕ) → holds r before after ≡ holds r other after
+  unseen-by-rule : (r : Rule) (before other after : List ℕ) → holds r before after ≡ holds r other after
   unseen-by-rule (clause c) before other after = unseen-by-clause c before other after
   unseen-by-rule (group k ms) before other after = unseen-by-members ms k before other after
 
@@ -45,31 +40,31 @@ before-unseen s before other after = go (read-sheet s)
 -- The answer. Each is stated for any image before, so the one that `judge` compares with itself never shows.
 
 module _ (s image : List ℕ) where
-  judged-by : (before : List ℕ) → judged s image ≡ verdict (well-formed s) (obeys s before image)
+  judged-from : (before : List ℕ) → judged s image ≡ judged-by (well-formed s) (obeys s before image)
   unfolding judged
-  judged-by before = ap (verdict (well-formed s)) (before-unseen s image before image)
+  judged-from before = ap (judged-by (well-formed s)) (before-unseen s image before image)
 
   pub malformed-iff : (judged s image ≡ Malformed) ↔ (well-formed s ≡ false)
   unfolding judged
   malformed-iff = go (well-formed s) (obeys s image image)
     where
-      go : (formed obeyed : Bool) → (verdict formed obeyed ≡ Malformed) ↔ (formed ≡ false)
+      go : (formed obeyed : Bool) → (judged-by formed obeyed ≡ Malformed) ↔ (formed ≡ false)
       go false obeyed = (λ e. refl, λ e. refl)
       go true true = (λ e. cc, λ e. cc)
       go true false = (λ e. cc, λ e. cc)
 
   pub obeys-iff : (before : List ℕ) → (judged s image ≡ Obeys) ↔ ((well-formed s ≡ true) × (obeys s before image ≡ true))
-  obeys-iff before = rw (judged-by before) (go (well-formed s) (obeys s before image))
+  obeys-iff before = rw (judged-from before) (go (well-formed s) (obeys s before image))
     where
-      go : (formed obeyed : Bool) → (verdict formed obeyed ≡ Obeys) ↔ ((formed ≡ true) × (obeyed ≡ true))
+      go : (formed obeyed : Bool) → (judged-by formed obeyed ≡ Obeys) ↔ ((formed ≡ true) × (obeyed ≡ true))
       go false obeyed = (λ e. (cc, cc), λ e. cc)
       go true true = (λ e. (refl, refl), λ e. refl)
       go true false = (λ e. (refl, cc), λ e. cc)
 
   pub breaks-iff : (before : List ℕ) → (judged s image ≡ Breaks) ↔ ((well-formed s ≡ true) × (obeys s before image ≡ false))
-  breaks-iff before = rw (judged-by before) (go (well-formed s) (obeys s before image))
+  breaks-iff before = rw (judged-from before) (go (well-formed s) (obeys s before image))
     where
-      go : (formed obeyed : Bool) → (verdict formed obeyed ≡ Breaks) ↔ ((formed ≡ true) × (obeyed ≡ false))
+      go : (formed obeyed : Bool) → (judged-by formed obeyed ≡ Breaks) ↔ ((formed ≡ true) × (obeyed ≡ false))
       go false obeyed = (λ e. (cc, cc), λ e. cc)
       go true true = (λ e. (refl, cc), λ e. cc)
       go true false = (λ e. (refl, refl), λ e. refl)
@@ -90,13 +85,3 @@ malformed-is-not-obeyed s before after = go (read-sheet s)
     go : (r : Option Rule) → is-rule r ≡ false → rule-holds r before after ≡ false
     go none e = refl
     go (some r) e = cc
-
--- "With low above high it is never true."
-pub low-above-high : (a low high : ℕ) (before after : List ℕ) → high < low → clause-holds (range a low high) before after ≡ false
-unfolding clause-holds
-low-above-high a low high before after h = go (ltb a (length after)) (decLe low (getD after a 0))
-  where
-    go : (inside : Bool) → Dec (low ≤ getD after a 0) → inside && (leb low (getD after a 0) && leb (getD after a 0) high) ≡ false
-    go false d = refl
-    go true (yes above) = rw (le-leb low (getD after a 0) above) (lt-leb (getD after a 0) high (omega arith))
-    go true (no below) = rw (lt-leb low (getD after a 0) (omega arith))

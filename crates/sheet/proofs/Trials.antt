@@ -5,7 +5,8 @@ use mathlib.Core.List.{List, [], _∷_, map}
 use mathlib.Core.Option.{Option, some}
 use Prim.Native.Nat.{ℕ}
 use lib.ListN.{replicate, set}
-use Rattle.sheet.specs.Sheet.{Rule, clause, group, nil, cons, range, same, all, any, field, clause-holds, empty-holds, join, holds, read-field, read-tagged, read-entry, read-members, read-rest, read-rule, read-edition, filling, read-filling, read-whole, read-sheet, well-formed, obeys, judged}
+use Rattle.bits.specs.Bits.{field, read-field}
+use Rattle.sheet.specs.Sheet.{Rule, clause, group, nil, cons, range, same, all, any, clause-holds, empty-holds, join, holds, read-tagged, read-entry, read-members, read-rest, read-rule, read-edition, filling, read-filling, read-whole, read-sheet, well-formed, obeys, judged}
 use Rattle.sheet.specs.declared.Judged.{Judged}
 use Rattle.sheet.specs.declared.Judged.the-variants.{Malformed, Obeys, Breaks}
 

@@ -8,11 +8,12 @@ use native.Mathlib.Omega.{arith}
 use lib.Dec.{eqb}
 use lib.ListN.{length}
 use borrow.Author.Tests.{lt-leb, le-leb, lt-ltb, le-ltb, eq-eqb, ne-eqb}
-use Rattle.sheet.specs.Sheet.{max-bytes, max-depth, edition-bits, the-edition, byte-bits, bit-count, field, Found, malformed, got, only-if, Rule, holds, read-field, read-rule, read-edition, filling, read-filling, read-whole, rule-of, read-sheet, well-formed, obeys, verdict, judged}
+use Rattle.bits.specs.Bits.{byte-bits, bit-count, field, Found, malformed, got, on-got, only-if, read-field}
+use Rattle.sheet.specs.Sheet.{max-bytes, max-depth, edition-bits, the-edition, Rule, holds, read-rule, read-edition, filling, read-filling, read-whole, rule-of, read-sheet, well-formed, obeys, judged-by, judged}
 use Rattle.sheet.specs.Inner.{step-told}
 use Rattle.sheet.specs.declared.Judged.the-variants.{Malformed}
 use Rattle.sheet.specs.declared.rules.Step.{Step}
-use Rattle.sheet.specs.declared.rules.Step.the-variants.{Broken, Good}
+use Rattle.sheet.specs.declared.rules.Step.the-variants.{Malformed as No-rule, Good}
 
 -- The filling.
 
@@ -56,32 +57,32 @@ module _ (s image : List ℕ) where
 
       -- what is left to be said once the rule is read
       abbrev rest : Found Rule → Option Rule
-      rest f = rule-of (Rattle.sheet.specs.Sheet.on-got f (λ r end. only-if (filling s end) (got r end)))
+      rest f = rule-of (on-got f (λ r end. only-if (filling s end) (got r end)))
 
       rule-is : edition ≡ the-edition → read-sheet s ≡ rest (read-rule max-depth s at)
       unfolding read-whole read-edition read-filling
       rule-is h = sheet-is ∙ rw (read, eq-eqb edition the-edition h)
 
-      broken : (f : Found Rule) {x : Step} → read-sheet s ≡ rest f → x ≡ step-told image f → x ≡ Broken → judged s image ≡ Malformed
-      broken malformed whole told e = none-judged whole
-      broken (got r end) whole told e = cc
+      ruleless : (f : Found Rule) {x : Step} → read-sheet s ≡ rest f → x ≡ step-told image f → x ≡ No-rule → judged s image ≡ Malformed
+      ruleless malformed whole told e = none-judged whole
+      ruleless (got r end) whole told e = cc
 
-      pub no-rule : {x : Step} → edition ≡ the-edition → x ≡ step-told image (read-rule max-depth s at) → x ≡ Broken → judged s image ≡ Malformed
-      no-rule h told e = broken (read-rule max-depth s at) (rule-is h) told e
+      pub no-rule : {x : Step} → edition ≡ the-edition → x ≡ step-told image (read-rule max-depth s at) → x ≡ No-rule → judged s image ≡ Malformed
+      no-rule h told e = ruleless (read-rule max-depth s at) (rule-is h) told e
 
-      by-filling : (r : Rule) (end : ℕ) (b : Bool) → filling s end ≡ b → read-sheet s ≡ rest (got r end) → judged s image ≡ verdict b (holds r image image)
+      by-filling : (r : Rule) (end : ℕ) (b : Bool) → filling s end ≡ b → read-sheet s ≡ rest (got r end) → judged s image ≡ judged-by b (holds r image image)
       unfolding judged well-formed obeys
       by-filling r end true f whole = let e : read-sheet s ≡ some r = whole ∙ rw f in rw e
       by-filling r end false f whole = none-judged (whole ∙ rw f)
 
       good : (f : Found Rule) {x : Step} {end : ℕ} {h b : Bool} → read-sheet s ≡ rest f → x ≡ step-told image f → x ≡ Good end h → filling s end ≡ b
-          → judged s image ≡ verdict b h
+          → judged s image ≡ judged-by b h
       good malformed whole told e fill = cc
       good (got r last) {x} {end} {h} {b} whole told e fill =
           let same-end : last ≡ end = cc in
           let same-truth : holds r image image ≡ h = cc in
-          by-filling r last b (rw same-end fill) whole ∙ ap (verdict b) same-truth
+          by-filling r last b (rw same-end fill) whole ∙ ap (judged-by b) same-truth
 
       pub one-rule : {x : Step} {end : ℕ} {h b : Bool} → edition ≡ the-edition → x ≡ step-told image (read-rule max-depth s at) → x ≡ Good end h
-          → filling s end ≡ b → judged s image ≡ verdict b h
+          → filling s end ≡ b → judged s image ≡ judged-by b h
       one-rule h told e fill = good (read-rule max-depth s at) (rule-is h) told e fill

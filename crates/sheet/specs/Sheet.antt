@@ -1,11 +1,13 @@
--- The rule sheet of document 01: its bits, its rules, how it is read and what an image must be to obey it.
--- A sheet is a list of bytes. Reading it needs no image, so whether a sheet is well-formed can't depend on one.
-use Prim.Native.Nat.{ℕ, zero, suc, _+_, _-_, _*_, _/_, _%_, _^_, max}
+-- The rule sheet of document 01: its rules, how it is read and what an image must be to obey it.
+-- A sheet is a list of bytes, "bit-packed, most significant bit first". Reading it needs no image, so whether a sheet is well-formed can't
+-- depend on one.
+use Prim.Native.Nat.{ℕ, zero, suc, _-_, max}
 use mathlib.Core.Bool.{Bool, true, false, _&&_, _||_}
 use mathlib.Core.List.{List}
 use mathlib.Core.Option.{Option, none, some}
 use lib.Dec.{leb, ltb, eqb}
 use lib.ListN.{length, getD}
+use Rattle.bits.specs.Bits.{byte-bits, bit-count, field, Found, malformed, got, Reader, _>>=_, give, only-if, read-field}
 use Rattle.sheet.specs.declared.Judged.{Judged}
 use Rattle.sheet.specs.declared.Judged.the-variants.{Malformed, Obeys, Breaks}
 
@@ -34,26 +36,9 @@ tag-bits = 2
 abbrev pub address-bits : ℕ
 address-bits = 16
 
--- "low (8), high (8)"; a byte of the sheet has as many.
-abbrev pub byte-bits : ℕ
-byte-bits = 8
-
 -- "member count (6)"
 abbrev pub count-bits : ℕ
 count-bits = 6
-
--- "Bit-packed, most significant bit first": bit i of a list of bytes, 0 past its end.
-abbrev pub bit : List ℕ → ℕ → ℕ
-bit s i = getD s (i / byte-bits) 0 / 2 ^ (byte-bits - 1 - i % byte-bits) % 2
-
--- The number whose n bits stand at a bit position.
-unfoldable pub field : List ℕ → ℕ → ℕ → ℕ
-field s at zero = 0
-field s at (suc n) = field s at n * 2 + bit s (at + n)
-
--- How many bits a sheet has.
-abbrev pub bit-count : List ℕ → ℕ
-bit-count s = byte-bits * length s
 
 -- A clause: "that byte is from low to high", "the two bytes are equal".
 pub data Clause : Type 0 where
@@ -111,34 +96,6 @@ unfoldable mutual
   pub deepest : Rules → ℕ
   deepest nil = 0
   deepest (cons r rs) = max (depth r) (deepest rs)
-
--- A reader goes over the bits of a sheet from a bit position. It has got something and stands after it, or the sheet is malformed.
-pub data Found (A : Type 0) : Type 0 where
-  malformed : Found A
-  got : A → (next : ℕ) → Found A
-
-abbrev pub Reader : Type 0 → Type 0
-Reader A = List ℕ → ℕ → Found A
-
-abbrev pub on-got : {A B : Type 0} → Found A → (A → ℕ → Found B) → Found B
-on-got malformed f = malformed
-on-got (got a next) f = f a next
-
-infixl 10 _>>=_
--- One reader, and then another from where the first one stands.
-abbrev pub _>>=_ : {A B : Type 0} → Reader A → (A → Reader B) → Reader B
-_>>=_ first second s at = on-got (first s at) (λ a next. second a s next)
-
-abbrev pub give : {A : Type 0} → A → Reader A
-give a s at = got a at
-
-abbrev pub only-if : {A : Type 0} → Bool → Found A → Found A
-only-if true f = f
-only-if false f = malformed
-
--- A field of n bits. A sheet that is cut short has not got it.
-unfoldable pub read-field : ℕ → Reader ℕ
-read-field n s at = only-if (leb (at + n) (bit-count s)) (got (field s at n) (at + n))
 
 -- What stands before a rule's members: a whole clause, or a group's kind and member count.
 pub data Entry : Type 0 where
@@ -248,11 +205,11 @@ obeys s before after = rule-holds (read-sheet s) before after
 abbrev pub allows : (sheet image : List ℕ) → Bool
 allows s image = obeys s image image
 
-abbrev pub verdict : (formed obeyed : Bool) → Judged
-verdict false obeyed = Malformed
-verdict true true = Obeys
-verdict true false = Breaks
+abbrev pub judged-by : (formed obeyed : Bool) → Judged
+judged-by false obeyed = Malformed
+judged-by true true = Obeys
+judged-by true false = Breaks
 
 -- What judging one image by a sheet answers.
 unfoldable pub judged : (sheet image : List ℕ) → Judged
-judged s image = verdict (well-formed s) (allows s image)
+judged s image = judged-by (well-formed s) (allows s image)

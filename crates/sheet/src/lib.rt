@@ -1,13 +1,13 @@
 // The rule sheet: `judge` says whether a sheet is well-formed, and if so whether an image obeys it. Proved: for every sheet and every image
 // the answer is `judged` of `specs/Sheet.antt`. Assumed: nothing.
-mod bits;
-mod reader;
+mod clause;
+mod entry;
 mod rules;
 
 use bits::BYTE_BITS;
 use bits::Field;
 use bits::field_at;
-use reader::take_field;
+use bits::reader::take_field;
 use rules::Step;
 use rules::judge_rule;
 ghost use mathlib.Core.Path.{_≡_};

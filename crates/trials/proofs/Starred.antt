@@ -9,7 +9,8 @@ use Rattle.pieces.specs.Rows.{row-at, rows-at, set-bits, rows-filled, row-fille
 use Rattle.pieces.specs.Kept.{kept, kept-of}
 use Rattle.records.specs.State.{writes-of, together, records-inside, sound}
 use Rattle.cuts.specs.Search.{finding, finding-from}
-use Rattle.sheet.specs.Sheet.{field, clause-holds, empty-holds, join, holds, members-hold, read-field, read-tagged, read-entry, read-members, read-rest, read-rule, read-edition, filling, read-filling, read-whole, read-sheet, well-formed, obeys}
+use Rattle.bits.specs.Bits.{field, read-field}
+use Rattle.sheet.specs.Sheet.{clause-holds, empty-holds, join, holds, members-hold, read-tagged, read-entry, read-members, read-rest, read-rule, read-edition, filling, read-filling, read-whole, read-sheet, well-formed, obeys}
 use Rattle.writelog.specs.Read.{asked-number}
 use Rattle.writelog.specs.Cut.{cut-number}
 use Rattle.gate.specs.Judgement.{judgement}

@@ -4,7 +4,7 @@ use Prim.Native.Nat.{_-_, _*_}
 use native.Mathlib.Omega.{arith}
 use lib.ListN.{length}
 use borrow.Author.Needs.{needs}
-use Rattle.sheet.specs.Sheet.{bit-count, byte-bits}
+use Rattle.bits.specs.Bits.{bit-count, byte-bits}
 use Rattle.sheet.proofs.Whole.{nothing-left, much-left, little-left}
 use Rattle.sheet.proofs.filled.Statement.{statement}
 use Rattle.sheet.proofs.filled.Tie as tie

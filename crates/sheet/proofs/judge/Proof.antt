@@ -3,8 +3,9 @@ use mathlib.Core.Path.{_≡_, sym, ap, _∙_}
 use mathlib.Core.Bool.{Bool, true}
 use borrow.Author.Needs.{needs}
 use borrow.Author.Tests.{not-true, not-false}
-use Rattle.sheet.specs.Sheet.{edition-bits, read-field, got, judged, verdict}
-use Rattle.sheet.proofs.Reading.{took, took-none}
+use Rattle.bits.specs.Bits.{read-field, got}
+use Rattle.bits.proofs.Reading.{took}
+use Rattle.sheet.specs.Sheet.{edition-bits, judged, judged-by}
 use Rattle.sheet.proofs.Whole.{too-long, no-edition, other-edition, no-rule, one-rule}
 use Rattle.sheet.proofs.judge.Statement.{statement}
 use Rattle.sheet.proofs.judge.Tie as tie
@@ -27,7 +28,7 @@ edition-read c = took _ _ _ (c .before .before .before .take-field .ensures) (c 
 -- a sheet with one rule, judged by its filling
 ruled : (c : tie.After-filled) {b : Bool} → c .filled .result ≡ b →
     let a = started (short (with-edition (c .before .before .before .before))) .args in
-    judged (a .sheet .now) (a .image .now) ≡ verdict b (c .before .before .end .given .0 .1 .0)
+    judged (a .sheet .now) (a .image .now) ≡ judged-by b (c .before .before .end .given .0 .1 .0)
 ruled c {b} e =
     let judging = c .before .before .before .before in
     let known = with-edition judging in
@@ -42,7 +43,7 @@ editionless : tie.Need-returns-2
 editionless c =
     let taking = c .before .before in
     let a = started (taking .before) .args in
-    sym (no-edition (a .sheet .now) (a .image .now) (taking .before .if1 .left) (took-none _ _ _ (taking .take-field .ensures) (c .enum-told .given .1)))
+    sym (no-edition (a .sheet .now) (a .image .now) (taking .before .if1 .left) (took _ _ _ (taking .take-field .ensures) (c .enum-told .given .1)))
 
 other : tie.Need-returns-3
 other c =
@@ -61,10 +62,10 @@ ill-filled : tie.Need-returns-5
 ill-filled c = sym (ruled (c .before) (not-true _ (c .if3 .taken)))
 
 obeys : tie.Need-returns-6
-obeys c = sym (ruled (c .before .before) (not-false _ (c .before .if3 .left)) ∙ ap (verdict true) (c .if4 .taken))
+obeys c = sym (ruled (c .before .before) (not-false _ (c .before .if3 .left)) ∙ ap (judged-by true) (c .if4 .taken))
 
 breaks : tie.Need-returns-7
-breaks c = sym (ruled (c .before .before) (not-false _ (c .before .if3 .left)) ∙ ap (verdict true) (c .if4 .left))
+breaks c = sym (ruled (c .before .before) (not-false _ (c .before .if3 .left)) ∙ ap (judged-by true) (c .if4 .left))
 
 pub judge-spec : {M : Type 1} → statement M
 judge-spec =
