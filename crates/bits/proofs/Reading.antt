@@ -58,11 +58,11 @@ field-got-lt n s at {v} {next} e =
 
 -- Two fields, and what is read after them.
 
-abbrev pub on-pair : {B : Type 0} → Pair → (ℕ → ℕ → ℕ → Found B) → Found B
+abbrev pub on-pair : {B : Type 0} → Pair → ((first second next : ℕ) → Found B) → Found B
 on-pair No-pair k = malformed
 on-pair (Both a b next) k = k a b next
 
-pub took-pair : {B : Type 0} (m n : ℕ) (s : List ℕ) (at : ℕ) (k : ℕ → ℕ → ℕ → Found B) {x y : Pair} → x ≡ pair-told (read-pair m n s at) → x ≡ y
+pub took-pair : {B : Type 0} (m n : ℕ) (s : List ℕ) (at : ℕ) (k : (first second next : ℕ) → Found B) {x y : Pair} → x ≡ pair-told (read-pair m n s at) → x ≡ y
     → on-got (read-field m s at) (λ a next. on-got (read-field n s next) (λ b end. k a b end)) ≡ on-pair y k
 took-pair m n s at k told e = first (read-field m s at) ∙ ap (λ (p : Pair). on-pair p k) (sym told ∙ e)
   where

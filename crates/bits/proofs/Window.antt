@@ -13,7 +13,7 @@ use lib.Pow as Pow
 use Rattle.bits.specs.Bits.{bit, field}
 
 -- m bytes from index i on, as one number
-unfoldable pub word : List ℕ → ℕ → ℕ → ℕ
+unfoldable pub word : (bytes : List ℕ) (i m : ℕ) → ℕ
 word s i zero = 0
 word s i (suc m) = word s i m * 2 ^ 8 + getD s (i + m) 0
 

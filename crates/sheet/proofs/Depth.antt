@@ -1,6 +1,7 @@
 -- The levels of a reader are document 01's depth, exactly: what a reader of d levels reads is at most d deep, and whatever a reader of more
 -- levels reads that is at most d deep, a reader of d levels reads too. Assumes nothing.
-use mathlib.Core.Path.{_≡_, refl, _∙_, subst}
+use mathlib.Core.Path.{_≡_, refl, ap, _∙_, subst}
+use mathlib.Core.Logic.{_↔_}
 use mathlib.Core.Bool.{Bool, true, false}
 use mathlib.Core.List.{List}
 use mathlib.Core.Option.{some}
@@ -54,16 +55,12 @@ module _ (s : List ℕ) where
       then-gets (λ e. Unit) (λ r. depth r ≤ suc d) (read-entry s at) _ (anything (read-entry s at)) λ e next p.
       shallow-rest d (read-rule d) (shallow d) e next
 
-got-gets : (P : Rule → Type 0) (f : Found Rule) {r : Rule} {next : ℕ} → Gets P f → f ≡ got r next → P r
-got-gets P malformed p e = absurd (let z : _≡_ {A = ℕ} 0 1 = cc in omega arith)
-got-gets P (got q last) {r} p e = let same-rule : q ≡ r = cc in subst P same-rule p
-
-pub read-is-shallow : (s : List ℕ) (d at : ℕ) {r : Rule} {next : ℕ} → read-rule d s at ≡ got r next → depth r ≤ d
-read-is-shallow s d at e = got-gets (λ r. depth r ≤ d) (read-rule d s at) (shallow s d at) e
-
 some-gets : (P : Rule → Type 0) (f : Found Rule) {r : Rule} → Gets P f → rule-of f ≡ some r → P r
 some-gets P malformed p e = absurd (let z : _≡_ {A = ℕ} 0 1 = cc in omega arith)
 some-gets P (got q next) {r} p e = let same-rule : q ≡ r = cc in subst P same-rule p
+
+read-is-shallow : (s : List ℕ) (d at : ℕ) {r : Rule} {next : ℕ} → read-rule d s at ≡ got r next → depth r ≤ d
+read-is-shallow s d at e = some-gets (λ r. depth r ≤ d) (read-rule d s at) (shallow s d at) (ap (λ (f : Found Rule). rule-of f) e)
 
 shallow-whole : (s : List ℕ) (at : ℕ) → Gets (λ r. depth r ≤ max-depth) (read-whole s at)
 unfolding read-whole read-edition read-filling
@@ -80,7 +77,7 @@ read-at-most s =
     (only-if-gets (λ r. depth r ≤ max-depth) (leb (length s) max-bytes) (read-whole s 0) (shallow-whole s 0))
 
 -- The other way round: g has what f has, if that is at most d by a measure.
-abbrev Keeps : {A : Type 0} → (A → ℕ) → ℕ → Found A → Found A → Type 0
+abbrev Keeps : {A : Type 0} (measure : A → ℕ) (d : ℕ) (f g : Found A) → Type 0
 Keeps m d malformed g = Unit
 Keeps m d (got a next) g = m a ≤ d → g ≡ got a next
 
@@ -132,5 +129,11 @@ module _ (s : List ℕ) where
       let low : depth q ≤ d = rw same-rule h in
       keeps low ∙ e
 
-  pub deep-enough-reads : (more d at : ℕ) {r : Rule} {next : ℕ} → read-rule more s at ≡ got r next → depth r ≤ d → read-rule d s at ≡ got r next
+  deep-enough-reads : (more d at : ℕ) {r : Rule} {next : ℕ} → read-rule more s at ≡ got r next → depth r ≤ d → read-rule d s at ≡ got r next
   deep-enough-reads more d at e h = read-keeps d (read-rule more s at) (read-rule d s at) (deep-enough more d at) e h
+
+-- A reader of d levels reads just what a reader of more levels does and is at most d deep.
+pub levels-are-depth : (s : List ℕ) {d more : ℕ} (at : ℕ) {r : Rule} {next : ℕ} → d ≤ more
+    → (read-rule d s at ≡ got r next) ↔ ((read-rule more s at ≡ got r next) × (depth r ≤ d))
+levels-are-depth s {d} {more} at h =
+    (λ e. let low = read-is-shallow s d at e in (deep-enough-reads s d more at e (omega arith), low), λ p. deep-enough-reads s more d at (p .0) (p .1))

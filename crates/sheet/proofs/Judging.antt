@@ -17,6 +17,17 @@ use Rattle.sheet.proofs.Reading.{clause-of-told}
 one-more : {n : ℕ} → (n ≡ 0 → ⊥) → suc (n - 1) ≡ n
 one-more h = omega arith
 
+-- What a step says of the rule that was read.
+
+pub step-malformed : (image : List ℕ) (f : Found Rule) {x : Step} → x ≡ step-told image f → x ≡ Malformed → f ≡ malformed
+step-malformed image malformed told e = refl
+step-malformed image (got r next) told e = cc
+
+pub step-good : (image : List ℕ) (f : Found Rule) {x : Step} {next : ℕ} {h : Bool} → x ≡ step-told image f → x ≡ Good next h
+    → (r : Rule) × (f ≡ got r next) × (holds r image image ≡ h)
+step-good image malformed told e = absurd (let z : _≡_ {A = ℕ} 0 1 = cc in omega arith)
+step-good image (got r end) told e = (r, cc, cc)
+
 -- A rule, by its entry.
 
 module _ (image s : List ℕ) where
@@ -33,8 +44,7 @@ module _ (image s : List ℕ) where
   told-members : (k : Kind) (f : Found Rules)
       → step-told image (on-got f (λ ms next. got (group k ms) next)) ≡ group-told (kind-of (is-all k)) image f
   unfolding holds
-  told-members all malformed = refl
-  told-members any malformed = refl
+  told-members k malformed = refl
   told-members all (got ms next) = refl
   told-members any (got ms next) = refl
 
@@ -43,8 +53,7 @@ module _ (image s : List ℕ) where
   unfolding holds read-rest
   told-rest d malformed = refl
   told-rest d (got (one c) next) = rw (clause-of-told c)
-  told-rest d (got (many all n) next) = told-members all (read-members n (read-rule d) s next)
-  told-rest d (got (many any n) next) = told-members any (read-members n (read-rule d) s next)
+  told-rest d (got (many k n) next) = told-members k (read-members n (read-rule d) s next)
 
   -- the answer of one case of the entry that the code has found
   pub rule-by-entry : (at levels : ℕ) {x e : EntryTold} → (levels ≡ 0 → ⊥) → x ≡ entry-told (read-entry s at) → x ≡ e
@@ -63,8 +72,7 @@ left-told k image acc (got ms next) = Good next (join k acc (members-hold ms k i
 
 pub nothing-joined : (b : Bool) (image : List ℕ) (f : Found Rules) → left-told (kind-of b) image b f ≡ group-told (kind-of b) image f
 unfolding join
-nothing-joined true image malformed = refl
-nothing-joined false image malformed = refl
+nothing-joined b image malformed = refl
 nothing-joined true image (got ms next) = refl
 nothing-joined false image (got ms next) = refl
 
@@ -112,25 +120,11 @@ module _ (k : Kind) (image : List ℕ) (member : Reader Rule) (s : List ℕ) whe
   first-told acc r malformed = refl
   first-told acc r (got ms next) = ap (Good next) (join-assoc k acc (holds r image image) (members-hold ms k image image))
 
-  -- the members from this one on
-  abbrev from-member : ℕ → Found Rule → Found Rules
-  from-member n f = on-got f (λ r next. on-got (read-members n member s next) (λ ms end. got (cons r ms) end))
+  -- what is to be answered, by the member that comes first
+  abbrev from-member : Bool → ℕ → Found Rule → Step
+  from-member acc n f = left-told k image acc (on-got f (λ r next. on-got (read-members n member s next) (λ ms end. got (cons r ms) end)))
 
-  malformed-told : (acc : Bool) (n : ℕ) (f : Found Rule) {x : Step} → x ≡ step-told image f → x ≡ Malformed
-      → left-told k image acc (from-member n f) ≡ Malformed
-  malformed-told acc n malformed told e = refl
-  malformed-told acc n (got r next) told e = cc
-
-  good-told : (acc : Bool) (n : ℕ) (f : Found Rule) {x : Step} {next : ℕ} {h : Bool} → x ≡ step-told image f → x ≡ Good next h
-      → left-told k image acc (from-member n f) ≡ left-told k image (join k acc h) (read-members n member s next)
-  good-told acc n malformed told e = cc
-  good-told acc n (got r end) {x} {next} {h} told e =
-      let same-end : end ≡ next = cc in
-      let same-truth : holds r image image ≡ h = cc in
-      first-told acc r (read-members n member s end) ∙ rw (same-end, same-truth)
-
-  one-of : (acc : Bool) (at : ℕ) {left : ℕ} → 0 < left
-      → left-told k image acc (read-members left member s at) ≡ left-told k image acc (from-member (left - 1) (member s at))
+  one-of : (acc : Bool) (at : ℕ) {left : ℕ} → 0 < left → left-told k image acc (read-members left member s at) ≡ from-member acc (left - 1) (member s at)
   unfolding read-members
   one-of acc at {left} some =
       let e : left ≡ suc (left - 1) = omega arith in
@@ -138,8 +132,12 @@ module _ (k : Kind) (image : List ℕ) (member : Reader Rule) (s : List ℕ) whe
 
   pub member-malformed : (acc : Bool) (at : ℕ) {left : ℕ} {x : Step} → 0 < left → x ≡ step-told image (member s at) → x ≡ Malformed
       → left-told k image acc (read-members left member s at) ≡ Malformed
-  member-malformed acc at {left} some told e = one-of acc at some ∙ malformed-told acc (left - 1) (member s at) told e
+  member-malformed acc at some told e = one-of acc at some ∙ rw (step-malformed image (member s at) told e)
 
   pub member-judged : (acc : Bool) (at : ℕ) {left : ℕ} {x : Step} {next : ℕ} {h : Bool} → 0 < left → x ≡ step-told image (member s at) → x ≡ Good next h
       → left-told k image acc (read-members left member s at) ≡ left-told k image (join k acc h) (read-members (left - 1) member s next)
-  member-judged acc at {left} some told e = one-of acc at some ∙ good-told acc (left - 1) (member s at) told e
+  member-judged acc at {left} {x} {next} some told e =
+      let g = step-good image (member s at) told e in
+      let others : Found Rules = read-members (left - 1) member s next in
+      one-of acc at some ∙ ap (from-member acc (left - 1)) (g .1) ∙ first-told acc (g .0) others
+      ∙ ap (λ (b : Bool). left-told k image (join k acc b) others) (g .2)

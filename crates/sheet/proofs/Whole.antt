@@ -14,6 +14,7 @@ use Rattle.sheet.specs.Inner.{step-told}
 use Rattle.sheet.specs.declared.Judged.the-variants.{Malformed}
 use Rattle.sheet.specs.declared.rules.Step.{Step}
 use Rattle.sheet.specs.declared.rules.Step.the-variants.{Malformed as No-rule, Good}
+use Rattle.sheet.proofs.Judging.{step-malformed, step-good}
 
 -- The filling.
 
@@ -63,26 +64,16 @@ module _ (s image : List ℕ) where
       unfolding read-whole read-edition read-filling
       rule-is h = sheet-is ∙ rw (read, eq-eqb edition the-edition h)
 
-      ruleless : (f : Found Rule) {x : Step} → read-sheet s ≡ rest f → x ≡ step-told image f → x ≡ No-rule → judged s image ≡ Malformed
-      ruleless malformed whole told e = none-judged whole
-      ruleless (got r end) whole told e = cc
-
       pub no-rule : {x : Step} → edition ≡ the-edition → x ≡ step-told image (read-rule max-depth s at) → x ≡ No-rule → judged s image ≡ Malformed
-      no-rule h told e = ruleless (read-rule max-depth s at) (rule-is h) told e
+      no-rule h told e = none-judged (rule-is h ∙ rw (step-malformed image (read-rule max-depth s at) told e))
 
       by-filling : (r : Rule) (end : ℕ) (b : Bool) → filling s end ≡ b → read-sheet s ≡ rest (got r end) → judged s image ≡ judged-by b (holds r image image)
       unfolding judged well-formed obeys
       by-filling r end true f whole = let e : read-sheet s ≡ some r = whole ∙ rw f in rw e
       by-filling r end false f whole = none-judged (whole ∙ rw f)
 
-      good : (f : Found Rule) {x : Step} {end : ℕ} {h b : Bool} → read-sheet s ≡ rest f → x ≡ step-told image f → x ≡ Good end h → filling s end ≡ b
-          → judged s image ≡ judged-by b h
-      good malformed whole told e fill = cc
-      good (got r last) {x} {end} {h} {b} whole told e fill =
-          let same-end : last ≡ end = cc in
-          let same-truth : holds r image image ≡ h = cc in
-          by-filling r last b (rw same-end fill) whole ∙ ap (judged-by b) same-truth
-
       pub one-rule : {x : Step} {end : ℕ} {h b : Bool} → edition ≡ the-edition → x ≡ step-told image (read-rule max-depth s at) → x ≡ Good end h
           → filling s end ≡ b → judged s image ≡ judged-by b h
-      one-rule h told e fill = good (read-rule max-depth s at) (rule-is h) told e fill
+      one-rule {x} {end} {h} {b} good told e fill =
+          let g = step-good image (read-rule max-depth s at) told e in
+          by-filling (g .0) end b fill (rule-is good ∙ ap rest (g .1)) ∙ ap (judged-by b) (g .2)

@@ -86,8 +86,8 @@ unfoldable mutual
   members-hold nil k before after = empty-holds k
   members-hold (cons r rs) k before after = join k (holds r before after) (members-hold rs k before after)
 
--- "Depth: a clause or empty group is 1, another group 1 + its deepest member". Reading counts levels instead, which `proofs/Depth.antt` proves
--- to be the same: a rule is refused as too deep exactly if this is over `max-depth`.
+-- "Depth: a clause or empty group is 1, another group 1 + its deepest member". Reading counts levels instead, which is the same:
+-- `proofs/Depth.antt` has `levels-are-depth`, and `read-at-most` for a whole sheet.
 unfoldable mutual
   pub depth : Rule → ℕ
   depth (clause c) = 1
