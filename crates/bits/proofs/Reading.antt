@@ -13,7 +13,7 @@ use Rattle.bits.specs.Bits.{bit-count, field, Found, malformed, got, on-
 use Rattle.bits.specs.declared.Field.{Field}
 use Rattle.bits.specs.declared.Field.the-variants.{Malformed, Bits}
 use Rattle.bits.specs.declared.pairs.Pair.{Pair}
-use Rattle.bits.specs.declared.pairs.Pair.the-variants.{Malformed as No-pair, Both}
+use Rattle.bits.specs.declared.pairs.Pair.the-variants.{Malformed as Malformed-pair, Both}
 
 -- A field.
 
@@ -59,7 +59,7 @@ field-got-lt n s at {v} {next} e =
 -- Two fields, and what is read after them.
 
 abbrev pub on-pair : {B : Type 0} → Pair → ((first second next : ℕ) → Found B) → Found B
-on-pair No-pair k = malformed
+on-pair Malformed-pair k = malformed
 on-pair (Both a b next) k = k a b next
 
 pub took-pair : {B : Type 0} (m n : ℕ) (s : List ℕ) (at : ℕ) (k : (first second next : ℕ) → Found B) {x y : Pair} → x ≡ pair-told (read-pair m n s at) → x ≡ y

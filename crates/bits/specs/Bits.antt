@@ -7,7 +7,7 @@ use lib.ListN.{length, getD}
 use Rattle.bits.specs.declared.Field.{Field}
 use Rattle.bits.specs.declared.Field.the-variants.{Malformed, Bits}
 use Rattle.bits.specs.declared.pairs.Pair.{Pair}
-use Rattle.bits.specs.declared.pairs.Pair.the-variants.{Malformed as No-pair, Both}
+use Rattle.bits.specs.declared.pairs.Pair.the-variants.{Malformed as Malformed-pair, Both}
 
 abbrev pub byte-bits : ℕ
 byte-bits = 8
@@ -69,5 +69,5 @@ field-told malformed = Malformed
 field-told (got value next) = Bits value next
 
 abbrev pub pair-told : Found (ℕ × ℕ) → Pair
-pair-told malformed = No-pair
+pair-told malformed = Malformed-pair
 pair-told (got p next) = Both (p .0) (p .1) next

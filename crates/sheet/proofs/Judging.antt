@@ -9,7 +9,7 @@ use Rattle.bits.specs.Bits.{Found, malformed, got, on-got, Reader}
 use Rattle.sheet.specs.Sheet.{Kind, all, any, Entry, one, many, Rule, Rules, group, cons, empty-holds, join, clause-holds, holds, members-hold, read-entry, read-members, read-rest, read-rule}
 use Rattle.sheet.specs.Inner.{clause-of, kind-of, is-all, entry-told, step-told, group-told}
 use Rattle.sheet.specs.declared.entry.Entry.{Entry as EntryTold}
-use Rattle.sheet.specs.declared.entry.Entry.the-variants.{Malformed as No-entry, One, Many}
+use Rattle.sheet.specs.declared.entry.Entry.the-variants.{Malformed as Malformed-entry, One, Many}
 use Rattle.sheet.specs.declared.rules.Step.{Step}
 use Rattle.sheet.specs.declared.rules.Step.the-variants.{Malformed, Good}
 use Rattle.sheet.proofs.Reading.{clause-of-told}
@@ -37,7 +37,7 @@ module _ (image s : List ℕ) where
 
   -- what judging a rule answers, once its entry is read
   abbrev pub by-entry : EntryTold → ℕ → Step
-  by-entry No-entry d = Malformed
+  by-entry Malformed-entry d = Malformed
   by-entry (One c next) d = Good next (clause-holds (clause-of c) image image)
   by-entry (Many b n next) d = group-told (kind-of b) image (read-members n (read-rule d) s next)
 

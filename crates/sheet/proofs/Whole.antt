@@ -13,7 +13,7 @@ use Rattle.sheet.specs.Sheet.{max-bytes, max-depth, edition-bits, the-ed
 use Rattle.sheet.specs.Inner.{step-told}
 use Rattle.sheet.specs.declared.Judged.the-variants.{Malformed}
 use Rattle.sheet.specs.declared.rules.Step.{Step}
-use Rattle.sheet.specs.declared.rules.Step.the-variants.{Malformed as No-rule, Good}
+use Rattle.sheet.specs.declared.rules.Step.the-variants.{Malformed as Malformed-step, Good}
 use Rattle.sheet.proofs.Judging.{step-malformed, step-good}
 
 -- The filling.
@@ -64,7 +64,7 @@ module _ (s image : List ℕ) where
       unfolding read-whole read-edition read-filling
       rule-is h = sheet-is ∙ rw (read, eq-eqb edition the-edition h)
 
-      pub no-rule : {x : Step} → edition ≡ the-edition → x ≡ step-told image (read-rule max-depth s at) → x ≡ No-rule → judged s image ≡ Malformed
+      pub no-rule : {x : Step} → edition ≡ the-edition → x ≡ step-told image (read-rule max-depth s at) → x ≡ Malformed-step → judged s image ≡ Malformed
       no-rule h told e = none-judged (rule-is h ∙ rw (step-malformed image (read-rule max-depth s at) told e))
 
       by-filling : (r : Rule) (end : ℕ) (b : Bool) → filling s end ≡ b → read-sheet s ≡ rest (got r end) → judged s image ≡ judged-by b (holds r image image)

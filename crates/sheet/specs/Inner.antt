@@ -7,7 +7,7 @@ use Rattle.sheet.specs.Sheet.{Clause, range, same, Kind, all, any, Entry
 use Rattle.sheet.specs.declared.clause.Clause.{Clause as ClauseTold}
 use Rattle.sheet.specs.declared.clause.Clause.the-variants.{Range, Same}
 use Rattle.sheet.specs.declared.entry.Entry.{Entry as EntryTold}
-use Rattle.sheet.specs.declared.entry.Entry.the-variants.{Malformed as No-entry, One, Many}
+use Rattle.sheet.specs.declared.entry.Entry.the-variants.{Malformed as Malformed-entry, One, Many}
 use Rattle.sheet.specs.declared.rules.Step.{Step}
 use Rattle.sheet.specs.declared.rules.Step.the-variants.{Malformed, Good}
 
@@ -29,7 +29,7 @@ is-all all = true
 is-all any = false
 
 abbrev pub entry-told : Found Entry → EntryTold
-entry-told malformed = No-entry
+entry-told malformed = Malformed-entry
 entry-told (got (one c) next) = One (clause-told c) next
 entry-told (got (many k count) next) = Many (is-all k) count next
 
