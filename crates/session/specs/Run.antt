@@ -87,5 +87,5 @@ module _ (sheet : List ℕ) where
   infixl 10 _and_
   -- at the end of the run and of each of its prefixes, back to the opening
   unfoldable pub throughout : {image : List ℕ} → (History → Desk → Type 0) → {h : History} {d : Desk} → Run image h d → Type 0
-  throughout P {h} {d} (opened o) = P h d
+  throughout P {h} {d} (opened same o) = P h d
   throughout P {h} {d} (r and s) = throughout P r × P h d

@@ -48,5 +48,5 @@ module _ (sheet tape : List ℕ) where
   infixl 10 _and_
   -- at the end of the run and of each of its prefixes, back to the opening
   unfoldable pub tape-throughout : {image : List ℕ} → (History → TapeDesk → Type 0) → {h : History} {t : TapeDesk} → TapeRun image h t → Type 0
-  tape-throughout P {h} {t} (opened o) = P h t
+  tape-throughout P {h} {t} (opened same o) = P h t
   tape-throughout P {h} {t} (r and s) = tape-throughout P r × P h t
