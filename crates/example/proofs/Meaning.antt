@@ -10,9 +10,9 @@ use Rattle.region.specs.Answer.{answer-number, if-done}
 use Rattle.region.specs.declared.Answer.{Answer}
 use Rattle.region.specs.declared.Answer.the-variants as answers
 use Rattle.region.proofs.AnswerLaws.{changed}
-use Rattle.example.specs.Valid.{valid}
+use Rattle.example.specs.Valid.{app-valid}
 use Rattle.example.specs.Setup.{setup-number, SetsUp}
-use Rattle.example.specs.Run.{run-number, run-answer-number, if-any-round, last-writes, Runs}
+use Rattle.example.specs.Run.{run-number, run-answer-number, if-any-round, log-after-round, Runs}
 use Rattle.example.specs.declared.RunAnswer.{RunAnswer}
 use Rattle.example.specs.declared.RunAnswer.the-variants.{Done}
 use Rattle.example.proofs.NumberLaws.{run-answers-by-number, setup-done-lies, Fit, run-good}
@@ -20,15 +20,16 @@ use Rattle.example.proofs.StepLaws.{first-value, set-valid, valid-lies}
 
 -- `setup` of the source: the image that it leaves is valid, whatever the other value
 pub set-up-is-valid : (image : List ℕ) (addr val0 : ℕ) {answer : Answer} {image′ : List ℕ} → SetsUp image addr val0 answer image′ → answer ≡ answers.Done
-    → (val1 : ℕ) → valid addr val0 val1 image′ ≡ true
+    → (val1 : ℕ) → app-valid addr val0 val1 image′ ≡ true
 set-up-is-valid image addr val0 p d val1 =
     let none : setup-number image addr ≡ 0 = sym (p .answers) ∙ ap answer-number d in
-    ap (valid addr val0 val1) (changed _ (p .image-after) none)
+    ap (app-valid addr val0 val1) (changed _ (p .image-after) none)
     ∙ set-valid addr val0 val1 val0 image (setup-done-lies image addr val0 none) (first-value val0 val1)
 
-module _ (image log work : List ℕ) (addr val0 val1 rounds : ℕ) {answer : RunAnswer} {image′ log′ work′ : List ℕ} (p : Runs image log work addr val0 val1 rounds answer image′ log′ work′) where
+module _ (image log work : List ℕ) (addr val0 val1 rounds : ℕ) {answer : RunAnswer} {image′ log′ work′ : List ℕ}
+    (p : Runs image log work addr val0 val1 rounds answer image′ log′ work′) where
   -- "It is proved that none comes after a good opening."
-  pub no-refusal : Fit (length image) (length log) (length work) addr rounds → valid addr val0 val1 image ≡ true → answer ≡ Done
+  pub no-refusal : Fit (length image) (length log) (length work) addr rounds → app-valid addr val0 val1 image ≡ true → answer ≡ Done
   no-refusal f good = run-answers-by-number answer Done (p .answers ∙ run-good image log work addr val0 val1 rounds f good)
 
   done-number : answer ≡ Done → run-number image log work addr val0 val1 rounds ≡ 0
@@ -58,15 +59,15 @@ module _ (image log work : List ℕ) (addr val0 val1 rounds : ℕ) {answer : Run
   nothing-in-no-round d z =
       let none = done-number d in (
         image-is d ∙ ap (λ (n : ℕ). if-any-round n (set image addr val0) image) z,
-        changed _ (p .log-after) none ∙ ap (λ (n : ℕ). if-any-round n (last-writes log val0 val1) log) z,
+        changed _ (p .log-after) none ∙ ap (λ (n : ℕ). if-any-round n (log-after-round log val0 val1) log) z,
         changed _ (p .work-after) none ∙ ap (λ (n : ℕ). if-any-round n (set image addr val0) work) z,
       )
 
   -- `run` of the source keeps its invariant
-  pub run-keeps-valid : valid addr val0 val1 image ≡ true → valid addr val0 val1 image′ ≡ true
-  run-keeps-valid good = ap (valid addr val0 val1) (p .image-after) ∙ go (run-number image log work addr val0 val1 rounds) rounds
+  pub run-keeps-valid : app-valid addr val0 val1 image ≡ true → app-valid addr val0 val1 image′ ≡ true
+  run-keeps-valid good = ap (app-valid addr val0 val1) (p .image-after) ∙ go (run-number image log work addr val0 val1 rounds) rounds
     where
-      go : (k n : ℕ) → valid addr val0 val1 (if-done k (if-any-round n (set image addr val0) image) image) ≡ true
+      go : (k n : ℕ) → app-valid addr val0 val1 (if-done k (if-any-round n (set image addr val0) image) image) ≡ true
       go zero zero = good
       go zero (suc n) = set-valid addr val0 val1 val0 image (valid-lies addr val0 val1 image good) (first-value val0 val1)
       go (suc k) n = good

@@ -13,18 +13,18 @@ use Rattle.region.specs.Answer.{unless, answer-number, refusal-number}
 use Rattle.region.specs.declared.Answer.{Answer}
 use Rattle.region.specs.declared.Refusal.{Refusal}
 use Rattle.region.specs.declared.Answer.the-variants as answers
-use Rattle.region.proofs.AnswerLaws.{refusals-by-number, done-changed, refused-left, refusal-not-done, passed}
+use Rattle.region.proofs.AnswerLaws.{refusals-by-number, done-changed, refused-left, refusal-not-done, passed, go-on, stop, both-none}
 use Rattle.region.proofs.Booleans.{both, cond-when, cond-unless}
-use Rattle.records.specs.declared.state.State.{State}
 use Rattle.sheet.specs.Sheet.{well-formed, obeys}
+use Rattle.records.specs.Desk.{Desk}
 use Rattle.gate.specs.Opening.{open-number, Opens}
 use Rattle.gate.proofs.Meaning.{denial-is-no-refusal}
 use Rattle.gate.proofs.OpeningLaws.{open-good, open-broken}
 use Rattle.gate.proofs.Gives.{opens-means, opened-fresh}
-use Rattle.example.specs.Valid.{valid}
+use Rattle.example.specs.Valid.{app-valid}
 use Rattle.example.specs.Setup.{setup-number, SetsUp}
-use Rattle.example.specs.Run.{rounds-limit, run-number, run-answer-number, Runs}
-use Rattle.example.specs.Steps.{fits-number, Under, Repeats}
+use Rattle.example.specs.Run.{rounds-limit, fits-number, run-fits, run-number, run-answer-number, Runs}
+use Rattle.example.specs.Steps.{Under, Repeats}
 use Rattle.example.specs.declared.RunAnswer.{RunAnswer}
 use Rattle.example.specs.declared.RunAnswer.the-variants.{Done, Refused, Denied}
 
@@ -120,41 +120,38 @@ module _ (L log-length work-length addr rounds : ℕ) where
         few = leb-true rounds rounds-limit (f₃ .0);
       }
 
--- three tests and what follows them: a refusal is none of what follows
-tests : Bool → Bool → Bool → ℕ → ℕ
-tests t₁ t₂ t₃ rest = unless t₁ 1 (unless t₂ 2 (unless t₃ 12 rest))
-
-unfit-anyway : (t₁ t₂ t₃ : Bool) (rest : ℕ) {n : ℕ} → 0 < n → tests t₁ t₂ t₃ 0 ≡ n → tests t₁ t₂ t₃ rest ≡ n
-unfolding tests
-unfit-anyway true true true rest h e = absurd (omega arith)
-unfit-anyway true true false rest h e = e
-unfit-anyway true false t₃ rest h e = e
-unfit-anyway false t₂ t₃ rest h e = e
-
 module _ (image log work : List ℕ) (addr val0 val1 rounds : ℕ) where
   abbrev run-is : ℕ
   run-is = run-number image log work addr val0 val1 rounds
 
-  pub run-unfit : (why : Refusal) → fits-number (length image) (length log) (length work) addr rounds ≡ refusal-number why → run-is ≡ refusal-number why
-  unfolding run-number tests
-  run-unfit why e =
-      unfit-anyway (leb (length image) image-limit && eqb (length log) log-limit && eqb (length work) (length image)) (leb (addr + 1) (length image)) (leb rounds rounds-limit)
-      (unless (valid addr val0 val1 image) 6 0) (refusal-not-done why) e
+  -- 6, or 0
+  abbrev judged : ℕ
+  judged = unless (app-valid addr val0 val1 image) 6 0
+
+  pub run-unfit : (why : Refusal) → run-fits image log work addr val0 val1 rounds ≡ refusal-number why → run-is ≡ refusal-number why
+  unfolding run-number
+  run-unfit why e = stop why judged e
+
+  -- number 0: the lengths fit, and the image is valid
+  pub run-0-fits : run-is ≡ 0 → Fit (length image) (length log) (length work) addr rounds × (app-valid addr val0 val1 image ≡ true)
+  unfolding run-number
+  run-0-fits e = let none = both-none {rest = judged} e in (number-0-fits _ _ _ addr rounds (none .0), passed 5 {rest = 0} (none .1) .0)
 
   module _ (f : Fit (length image) (length log) (length work) addr rounds) where
-    run-fit : run-is ≡ unless (valid addr val0 val1 image) 6 0
+    run-fit : run-is ≡ judged
     unfolding run-number
-    run-fit =
-        rw (le-leb (length image) image-limit (f .short), eq-eqb (length log) log-limit (f .buffer), eq-eqb (length work) (length image) (f .same))
-        (rw (le-leb (addr + 1) (length image) (omega (arith, f .lies)), le-leb rounds rounds-limit (f .few)))
+    run-fit = go-on (fits-done (length image) (length log) (length work) addr rounds (f .short) (f .buffer) (f .same) (f .lies) (f .few))
 
-    pub run-broken : valid addr val0 val1 image ≡ false → run-is ≡ 6
-    run-broken e = run-fit ∙ cond-unless (valid addr val0 val1 image) 0 6 e
+    pub run-broken : app-valid addr val0 val1 image ≡ false → run-is ≡ 6
+    run-broken e = run-fit ∙ cond-unless (app-valid addr val0 val1 image) 0 6 e
 
-    pub run-good : valid addr val0 val1 image ≡ true → run-is ≡ 0
-    run-good e = run-fit ∙ cond-when (valid addr val0 val1 image) 0 6 e
+    pub run-good : app-valid addr val0 val1 image ≡ true → run-is ≡ 0
+    run-good e = run-fit ∙ cond-when (app-valid addr val0 val1 image) 0 6 e
 
-  pub runs-refused : (why : Refusal) → run-is ≡ refusal-number why → Runs image log work addr val0 val1 rounds (Refused why) image log work
+-- the promise of a refused run and of a done one
+module _ {image log work : List ℕ} {addr val0 val1 rounds : ℕ} where
+  pub runs-refused : (why : Refusal) → run-number image log work addr val0 val1 rounds ≡ refusal-number why
+      → Runs image log work addr val0 val1 rounds (Refused why) image log work
   runs-refused why e =
       record {
         answers = sym e;
@@ -163,8 +160,8 @@ module _ (image log work : List ℕ) (addr val0 val1 rounds : ℕ) where
         work-after = refused-left why _ e;
       }
 
-  pub runs-done : run-is ≡ 0 → {answer : RunAnswer} {image′ log′ work′ : List ℕ} → Repeats image log work addr val0 val1 rounds answer image′ log′ work′
-      → Runs image log work addr val0 val1 rounds answer image′ log′ work′
+  runs-done : run-number image log work addr val0 val1 rounds ≡ 0 → {answer : RunAnswer} {image′ log′ work′ : List ℕ}
+      → Repeats image log work addr val0 val1 rounds answer image′ log′ work′ → Runs image log work addr val0 val1 rounds answer image′ log′ work′
   runs-done none r =
       record {
         answers = ap run-answer-number (r .answers) ∙ sym none;
@@ -173,33 +170,31 @@ module _ (image log work : List ℕ) (addr val0 val1 rounds : ℕ) where
         work-after = r .work-after ∙ done-changed _ none;
       }
 
--- the opening of a run, under a sheet that says `valid`
-module _ (image log work sheet : List ℕ) (addr val0 val1 rounds : ℕ) (f : Fit (length image) (length log) (length work) addr rounds) (formed : well-formed sheet ≡ true)
-    (says : (before after : List ℕ) → obeys sheet before after ≡ valid addr val0 val1 after) where
-  pub opening-decides : open-number image log sheet ≡ run-number image log work addr val0 val1 rounds
-  opening-decides = go (valid addr val0 val1 image) refl
+-- the opening of a run, under a sheet that says `app-valid`
+module _ (d : Desk) (sheet work : List ℕ) (addr val0 val1 rounds : ℕ) (f : Fit (length (d .image)) (length (d .log)) (length work) addr rounds)
+    (formed : well-formed sheet ≡ true) (says : (before after : List ℕ) → obeys sheet before after ≡ app-valid addr val0 val1 after) where
+  pub opening-decides : open-number d sheet ≡ run-number (d .image) (d .log) work addr val0 val1 rounds
+  opening-decides = go (app-valid addr val0 val1 (d .image)) refl
     where
-      go : (b : Bool) → valid addr val0 val1 image ≡ b → open-number image log sheet ≡ run-number image log work addr val0 val1 rounds
-      go true e = open-good image log sheet (f .short) (f .buffer) (says image image ∙ e) ∙ sym (run-good image log work addr val0 val1 rounds f e)
-      go false e = open-broken image log sheet (f .short) (f .buffer) formed (says image image ∙ e) ∙ sym (run-broken image log work addr val0 val1 rounds f e)
+      go : (b : Bool) → app-valid addr val0 val1 (d .image) ≡ b → open-number d sheet ≡ run-number (d .image) (d .log) work addr val0 val1 rounds
+      go true e = open-good d sheet (f .short) (f .buffer) (says _ (d .image) ∙ e) ∙ sym (run-good _ _ _ addr val0 val1 rounds f e)
+      go false e = open-broken d sheet (f .short) (f .buffer) formed (says _ (d .image) ∙ e) ∙ sym (run-broken _ _ _ addr val0 val1 rounds f e)
 
-  module _ {st : State} {answer : Answer} {st′ : State} (o : Opens image st log sheet answer st′) where
-    pub opening-refused : {why : Refusal} → answer ≡ answers.Refused why → Runs image log work addr val0 val1 rounds (Refused why) image log work
-    opening-refused {why} e = runs-refused image log work addr val0 val1 rounds why (sym opening-decides ∙ sym (o .answers) ∙ ap answer-number e)
+  module _ {answer : Answer} {d′ : Desk} (o : Opens d sheet answer d′) where
+    answers-so : {a : Answer} → answer ≡ a → run-number (d .image) (d .log) work addr val0 val1 rounds ≡ answer-number a
+    answers-so e = sym opening-decides ∙ sym (o .answers) ∙ ap answer-number e
 
-    pub opening-good : answer ≡ answers.Done → Under image st′ log sheet work addr val0 val1
-    opening-good d =
-        let good = opens-means image st log sheet o .0 d in
-        let state = opened-fresh image st log sheet o d in
-        record {
-          idle = record { sized = ap (λ (s : State). length (s .records)) state; empty = ap (λ (s : State). s .count) state };
-          short = f .short;
-          buffer = f .buffer;
-          same = f .same;
-          good = sym (says image image) ∙ good .obeyed;
-          says = says;
-        }
+    pub opening-refused : {why : Refusal} → answer ≡ answers.Refused why
+        → Runs (d .image) (d .log) work addr val0 val1 rounds (Refused why) (d .image) (d .log) work
+    opening-refused {why} e = runs-refused why (answers-so e)
 
-    pub run-goes : answer ≡ answers.Done → {done : RunAnswer} {image′ log′ work′ : List ℕ} → Repeats image log work addr val0 val1 rounds done image′ log′ work′
-        → Runs image log work addr val0 val1 rounds done image′ log′ work′
-    run-goes d r = runs-done image log work addr val0 val1 rounds (sym opening-decides ∙ sym (o .answers) ∙ ap answer-number d) r
+    pub opening-good : answer ≡ answers.Done → Under d′ sheet work addr val0 val1
+    opening-good e =
+        let good = sym (says _ (d .image)) ∙ opens-means o .0 e .obeyed in
+        rw (opened-fresh o e)
+        (record { idle = record { sized = refl; empty = refl }; short = f .short; buffer = f .buffer; same = f .same; good = good; says = says })
+
+    pub run-goes : answer ≡ answers.Done → {done : RunAnswer} {image′ log′ work′ : List ℕ}
+        → Repeats (d .image) (d .log) work addr val0 val1 rounds done image′ log′ work′
+        → Runs (d .image) (d .log) work addr val0 val1 rounds done image′ log′ work′
+    run-goes e r = runs-done (answers-so e) r

@@ -1,4 +1,4 @@
--- The example's sheet is read as "any of: byte addr is val0; byte addr is val1", and what obeys it is `valid`, for every address of 16 bits and any two
+-- The example's sheet is read as "any of: byte addr is val0; byte addr is val1", and what obeys it is `app-valid`, for every address of 16 bits and any two
 -- bytes. Each field lies in at most three bytes, so it is a quotient and a remainder of their number. Assumes nothing.
 use Prim.Native.Nat.{ℕ, zero, suc, _+_, _-_, _*_, _/_, _%_, _^_, _≤_, _<_}
 use native.Mathlib.Decide.{decLt}
@@ -11,11 +11,12 @@ use lib.Dec.{leb, ltb, eqb}
 use lib.ListN.{length, getD}
 use borrow.Author.Tests.{le-leb, lt-leb, eq-eqb, ne-eqb}
 use Rattle.bits.specs.Bits.{got, byte-bits, bit-count, field, read-field}
-use Rattle.sheet.specs.Sheet.{address-bits, clause, range, clause-holds, empty-holds, join, holds, read-tagged, read-entry, read-members, read-rest, read-rule, read-edition, filling, read-filling, read-whole, read-sheet, well-formed, obeys}
 use Rattle.bits.proofs.Window.{word, word-field}
 use Rattle.bits.proofs.Reading.{field-there}
+use Rattle.sheet.specs.Sheet.{address-bits, clause, range, clause-holds, empty-holds, join, holds, well-formed, obeys}
+use Rattle.sheet.specs.Sheet.{read-tagged, read-entry, read-members, read-rest, read-rule, read-edition, filling, read-filling, read-whole, read-sheet}
 use Rattle.sheet.proofs.Reading.{entry-range}
-use Rattle.example.specs.Valid.{valid, app-rule, app-sheet}
+use Rattle.example.specs.Valid.{app-valid, app-rule, app-sheet}
 
 -- a list of bytes, entry by entry
 abbrev Bytes : List ℕ → Type 0
@@ -32,7 +33,8 @@ module _ (s : List ℕ) where
   there : (n at : ℕ) {v : ℕ} → at + n ≤ bit-count s → field s at n ≡ v → read-field n s at ≡ got v (at + n)
   there n at h e = field-there n s at h ∙ ap (λ (x : ℕ). got x (at + n)) e
 
-  range-read : (levels at : ℕ) {p₁ p₂ p₃ p₄ a low high : ℕ} → read-field 2 s at ≡ got 0 p₁ → read-field 16 s p₁ ≡ got a p₂ → read-field 8 s p₂ ≡ got low p₃ → read-field 8 s p₃ ≡ got high p₄
+  range-read : (levels at : ℕ) {p₁ p₂ p₃ p₄ a low high : ℕ} → read-field 2 s at ≡ got 0 p₁
+      → read-field 16 s p₁ ≡ got a p₂ → read-field 8 s p₂ ≡ got low p₃ → read-field 8 s p₃ ≡ got high p₄
       → read-rule (suc levels) s at ≡ got (clause (range a low high)) p₄
   unfolding read-rule read-rest
   range-read levels at tag a l h = rw (entry-range s at tag refl, a, l, h)
@@ -91,11 +93,13 @@ module _ (addr val0 val1 : ℕ) (fits : addr < 2 ^ address-bits) (byte0 : val0 <
 
   first-read : (levels : ℕ) → read-rule (suc levels) s 12 ≡ got (clause (range addr val0 val0)) 46
   first-read levels =
-      range-read s levels 12 (there s 2 12 (omega arith) first-tag) (there s 16 14 (omega arith) first-address) (there s 8 30 (omega arith) first-low) (there s 8 38 (omega arith) first-high)
+      range-read s levels 12 (there s 2 12 (omega arith) first-tag) (there s 16 14 (omega arith) first-address)
+      (there s 8 30 (omega arith) first-low) (there s 8 38 (omega arith) first-high)
 
   second-read : (levels : ℕ) → read-rule (suc levels) s 46 ≡ got (clause (range addr val1 val1)) 80
   second-read levels =
-      range-read s levels 46 (there s 2 46 (omega arith) second-tag) (there s 16 48 (omega arith) second-address) (there s 8 64 (omega arith) second-low) (there s 8 72 (omega arith) second-high)
+      range-read s levels 46 (there s 2 46 (omega arith) second-tag) (there s 16 48 (omega arith) second-address)
+      (there s 8 64 (omega arith) second-low) (there s 8 72 (omega arith) second-high)
 
   rule-read : read-rule 8 s 4 ≡ got (app-rule addr val0 val1) 80
   unfolding read-rule read-entry read-tagged read-rest read-members
@@ -124,8 +128,8 @@ module _ (addr val0 val1 : ℕ) (fits : addr < 2 ^ address-bits) (byte0 : val0 <
   either true false false = refl
   either false x y = refl
 
-  pub sheet-says-valid : (before after : List ℕ) → obeys s before after ≡ valid addr val0 val1 after
-  unfolding obeys holds clause-holds join empty-holds valid
+  pub sheet-says-valid : (before after : List ℕ) → obeys s before after ≡ app-valid addr val0 val1 after
+  unfolding obeys holds clause-holds join empty-holds app-valid
   sheet-says-valid before after =
       let b = getD after addr 0 in
       rw (app-sheet-read, between val0 b, between val1 b) (either (ltb addr (length after)) (eqb b val0) (eqb b val1))

@@ -3,7 +3,7 @@ use Prim.Native.Nat.{ℕ}
 use mathlib.Core.Path.{_≡_, refl}
 use mathlib.Core.List.{List, [], _∷_, map}
 use lib.ListN.{replicate}
-use Rattle.example.specs.Valid.{valid, app-sheet}
+use Rattle.example.specs.Valid.{app-valid, app-sheet}
 use Rattle.example.specs.Setup.{setup-number}
 use Rattle.example.specs.Run.{run-number}
 
@@ -43,7 +43,10 @@ trials =
     trial 16 1024 16 3 0x11 1000 6 ∷
     []
 
-runs-as-told : map (λ (t : Trial). run-number (replicate (t .image-length) 0) (replicate (t .log-length) 0) (replicate (t .work-length) 0) (t .addr) (t .val0) 0x22 (t .rounds)) trials
-    ≡ map (λ (t : Trial). t .number) trials
-unfolding run-number valid
+runs : Trial → ℕ
+unfolding run-number app-valid
+runs t = run-number (replicate (t .image-length) 0) (replicate (t .log-length) 0) (replicate (t .work-length) 0) (t .addr) (t .val0) 0x22 (t .rounds)
+
+runs-as-told : map runs trials ≡ map (λ (t : Trial). t .number) trials
+unfolding runs
 runs-as-told = refl

@@ -10,7 +10,7 @@ use lib.ListN.{length, set}
 use Rattle.region.specs.Limits.{image-limit, log-limit}
 use Rattle.region.specs.Answer.{refusal-number, unless, if-done}
 use Rattle.gate.specs.Judgement.{denied-number}
-use Rattle.example.specs.Valid.{valid}
+use Rattle.example.specs.Valid.{app-valid}
 use Rattle.example.specs.declared.RunAnswer.{RunAnswer}
 use Rattle.example.specs.declared.RunAnswer.the-variants.{Done, Refused, Denied}
 
@@ -24,14 +24,13 @@ run-answer-number Done = 0
 run-answer-number (Refused why) = refusal-number why
 run-answer-number Denied = denied-number
 
--- 6 is "opening: image breaks the sheet": the sheet says `valid` (`proofs/SheetLaws.antt`)
-unfoldable pub run-number : (image log work : List ℕ) (addr val0 val1 rounds : ℕ) → ℕ
-run-number image log work addr val0 val1 rounds =
-    unless (leb (length image) image-limit && eqb (length log) log-limit && eqb (length work) (length image)) 1
-    (unless (leb (addr + 1) (length image)) 2
+-- what is asked before the image is judged: 1, 2 and 12, by the lengths
+abbrev pub fits-number : (L log-length work-length addr rounds : ℕ) → ℕ
+fits-number L log-length work-length addr rounds =
+    unless (leb L image-limit && eqb log-length log-limit && eqb work-length L) 1
+    (unless (leb (addr + 1) L) 2
     (unless (leb rounds rounds-limit) 12
-    (unless (valid addr val0 val1 image) 6
-    0)))
+    0))
 
 -- what any round changes, and none leaves
 abbrev pub if-any-round {ℓ} : {A : Type ℓ} → (rounds : ℕ) → (after before : A) → A
@@ -39,12 +38,20 @@ if-any-round zero after before = before
 if-any-round (suc rounds) after before = after
 
 -- the bytes that the last two writes of a round leave in the log buffer
-abbrev pub last-writes : List ℕ → (val0 val1 : ℕ) → List ℕ
-last-writes log val0 val1 = set (set log 0 val1) 1 val0
+abbrev pub log-after-round : List ℕ → (val0 val1 : ℕ) → List ℕ
+log-after-round log val0 val1 = set (set log 0 val1) 1 val0
 
--- what a run promises: its number, and every byte of the image, the log buffer and the working image afterwards
-pub record Runs (image log work : List ℕ) (addr val0 val1 rounds : ℕ) (answer : RunAnswer) (image′ log′ work′ : List ℕ) : Type 0 where
-  pub answers : run-answer-number answer ≡ run-number image log work addr val0 val1 rounds
-  pub image-after : image′ ≡ if-done (run-number image log work addr val0 val1 rounds) (if-any-round rounds (set image addr val0) image) image
-  pub log-after : log′ ≡ if-done (run-number image log work addr val0 val1 rounds) (if-any-round rounds (last-writes log val0 val1) log) log
-  pub work-after : work′ ≡ if-done (run-number image log work addr val0 val1 rounds) (if-any-round rounds (set image addr val0) work) work
+module _ (image log work : List ℕ) (addr val0 val1 rounds : ℕ) where
+  abbrev pub run-fits : ℕ
+  run-fits = fits-number (length image) (length log) (length work) addr rounds
+
+  -- 6 is "opening: image breaks the sheet": the sheet says `app-valid` (`proofs/SheetLaws.antt`)
+  unfoldable pub run-number : ℕ
+  run-number = if-done run-fits (unless (app-valid addr val0 val1 image) 6 0) run-fits
+
+  -- what a run promises: its number, and every byte of the image, the log buffer and the working image afterwards
+  pub record Runs (answer : RunAnswer) (image′ log′ work′ : List ℕ) : Type 0 where
+    pub answers : run-answer-number answer ≡ run-number
+    pub image-after : image′ ≡ if-done run-number (if-any-round rounds (set image addr val0) image) image
+    pub log-after : log′ ≡ if-done run-number (if-any-round rounds (log-after-round log val0 val1) log) log
+    pub work-after : work′ ≡ if-done run-number (if-any-round rounds (set image addr val0) work) work

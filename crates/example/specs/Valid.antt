@@ -11,8 +11,8 @@ abbrev pub one-of : ℕ → ℕ → ℕ → Bool
 one-of val0 val1 b = eqb b val0 || eqb b val1
 
 -- `valid`: the address lies inside, and its byte is one of the two values
-unfoldable pub valid : (addr val0 val1 : ℕ) → List ℕ → Bool
-valid addr val0 val1 s = ltb addr (length s) && one-of val0 val1 (getD s addr 0)
+unfoldable pub app-valid : (addr val0 val1 : ℕ) → List ℕ → Bool
+app-valid addr val0 val1 s = ltb addr (length s) && one-of val0 val1 (getD s addr 0)
 
 -- "any of: byte addr is val0; byte addr is val1"
 abbrev pub app-rule : (addr val0 val1 : ℕ) → Rule

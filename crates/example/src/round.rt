@@ -7,6 +7,7 @@ use region::Answer;
 use writelog::flush::flush;
 ghost use mathlib.Core.Path.{_≡_};
 ghost use Rattle.region.specs.Answer.{answer-number};
+ghost use Rattle.records.specs.Desk.{desk};
 ghost use Rattle.gate.specs.Judgement.{verdict-report};
 ghost use Rattle.example.specs.Run.{run-answer-number};
 ghost use Rattle.example.specs.Steps.{Under, Goes};
@@ -49,8 +50,8 @@ pub fn pair(
     first: u8,
     second: u8,
 ) -> Stepped
-    requires { ⌜ Under (now image) state (now log) (now sheet) (now work) addr first second ⌝ }
-    ensures { λ r. ⌜ Goes (now (image .entry)) (now (log .entry)) addr first second (r .answer) (r .state) (now (image .exit)) (now (log .exit)) (now (work .exit)) ⌝ }
+    requires { ⌜ Under (desk (now image) state (now log)) (now sheet) (now work) addr first second ⌝ }
+    ensures { λ r. ⌜ Goes (desk (now (image .entry)) state (now (log .entry))) addr first second (r .answer) (desk (now (image .exit)) (r .state) (now (log .exit))) (now (work .exit)) ⌝ }
 {
     let once = gate(state, image, log, sheet, work, addr, &[first]);
     let verdict = once.verdict;
@@ -90,8 +91,8 @@ pub fn round(
     val0: u8,
     val1: u8,
 ) -> Stepped
-    requires { ⌜ Under (now image) state (now log) (now sheet) (now work) addr val0 val1 ⌝ }
-    ensures { λ r. ⌜ Goes (now (image .entry)) (now (log .entry)) addr val1 val0 (r .answer) (r .state) (now (image .exit)) (now (log .exit)) (now (work .exit)) ⌝ }
+    requires { ⌜ Under (desk (now image) state (now log)) (now sheet) (now work) addr val0 val1 ⌝ }
+    ensures { λ r. ⌜ Goes (desk (now (image .entry)) state (now (log .entry))) addr val1 val0 (r .answer) (desk (now (image .exit)) (r .state) (now (log .exit))) (now (work .exit)) ⌝ }
 {
     let there = pair(state, image, log, sheet, work, addr, val0, val1);
     let answer = there.answer;

@@ -3,17 +3,18 @@ use crate::ROUNDS_LIMIT;
 use crate::RunAnswer;
 use crate::app_sheet::app_sheet;
 use crate::round::round;
-use gate::open::fresh;
 use gate::open::open;
 use records::state::State;
+use records::state::fresh;
 use region::Answer;
 use region::IMAGE_LIMIT;
 use region::LOG_LIMIT;
 use region::Refusal;
 ghost use mathlib.Core.Path.{_≡_};
 ghost use Rattle.region.specs.Answer.{answer-number};
-ghost use Rattle.example.specs.Run.{Runs};
-ghost use Rattle.example.specs.Steps.{Under, fits-number, Repeats};
+ghost use Rattle.records.specs.Desk.{desk};
+ghost use Rattle.example.specs.Run.{fits-number, Runs};
+ghost use Rattle.example.specs.Steps.{Under, Repeats};
 
 // What is asked before the image is judged: document 01's 1, 2 and 12.
 fn fits(image: usize, log: usize, work: usize, addr: usize, rounds: u64) -> Answer
@@ -49,7 +50,7 @@ fn repeat(
     val1: u8,
     rounds: u64,
 ) -> RunAnswer
-    requires { ⌜ Under (now image) state (now log) (now sheet) (now work) addr val0 val1 ⌝ }
+    requires { ⌜ Under (desk (now image) state (now log)) (now sheet) (now work) addr val0 val1 ⌝ }
     ensures { λ r. ⌜ Repeats (now (image .entry)) (now (log .entry)) (now (work .entry)) addr val0 val1 rounds r (now (image .exit)) (now (log .exit)) (now (work .exit)) ⌝ }
 {
     let mut current = state;

@@ -1,10 +1,11 @@
 -- `example::round::pair` meets its contract. The gate admits the first value over an empty log and the second over the first (`StepLaws`), so neither
 -- verdict stops the pair; the flush over both is done. Assumes nothing.
 use mathlib.Core.Path.{ap, _∙_}
-use mathlib.Core.List.{[], _∷_}
 use lib.ListN.{length, length-set}
 use borrow.Author.Needs.{needs}
+use Rattle.records.specs.Desk.{Desk, desk, with-write}
 use Rattle.example.proofs.Arms.{admitted-goes-on}
+use Rattle.example.proofs.ByteLog.{byte-write}
 use Rattle.example.proofs.StepLaws.{Gated, once, twice, pair-goes}
 use Rattle.example.proofs.round.pair.Statement.{statement}
 use Rattle.example.proofs.round.pair.Tie as tie
@@ -19,14 +20,20 @@ first-write c = c .before .before .before .before .before .before .before .befor
 abbrev second-write : tie.After-settled → tie.After-gate2
 second-write c = c .before .before .before .before .before .before .before .before .before .before .before .before .before .before
 
--- what each write comes to
-once-here : (c : tie.After-gate) → let a = start c .args in let r = c .gate in
-    Gated (a .image .now) (a .log .now) (a .addr) (a .first) [] (r .result .verdict) (r .result .state) (r .last .1 .1 .0) (r .last .1 .1 .1 .1 .0)
-once-here c = once _ _ _ _ _ _ _ _ (start c .pre) (c .gate .ensures)
+-- the desk that it is handed
+abbrev here : tie.Start → Desk
+here c = desk (c .args .image .now) (c .args .state) (c .args .log .now)
 
-twice-here : (c : tie.After-gate2) → let a = start (first-write c) .args in let r = c .gate2 in
-    Gated (a .image .now) (first-write c .gate .last .1 .1 .0) (a .addr) (a .second) (a .first ∷ []) (r .result .verdict) (r .result .state) (r .last .1 .1 .0) (r .last .1 .1 .1 .1 .0)
-twice-here c = twice _ _ _ _ _ _ _ _ (start (first-write c) .pre) (once-here (first-write c)) (c .gate2 .ensures)
+-- what each write comes to
+once-here : (c : tie.After-gate) → let at = start c in let r = c .gate in
+    Gated (here at) (at .args .addr) (at .args .first) (r .result .verdict)
+    (desk (at .args .image .now) (r .result .state) (r .last .1 .1 .0)) (r .last .1 .1 .1 .1 .0)
+once-here c = once (start c .pre) (c .gate .ensures)
+
+twice-here : (c : tie.After-gate2) → let at = start (first-write c) in let r = c .gate2 in
+    Gated (with-write (here at) (byte-write (at .args .addr) (at .args .first))) (at .args .addr) (at .args .second) (r .result .verdict)
+    (desk (at .args .image .now) (r .result .state) (r .last .1 .1 .0)) (r .last .1 .1 .1 .1 .0)
+twice-here c = twice (start (first-write c) .pre) (once-here (first-write c)) (c .gate2 .ensures)
 
 first-admitted : tie.Need-returns
 first-admitted c = absurd (admitted-goes-on (once-here (c .before .before .before .before .before .before .before) .admitted) (c .before .match .keys2))
@@ -37,8 +44,7 @@ second-admitted c = absurd (admitted-goes-on (twice-here (c .before .before .bef
 written : tie.Need-returns-3
 written c =
     let second = second-write c in
-    let first = first-write second in
-    pair-goes _ _ _ _ _ _ _ _ (start first .pre) (once-here first) (twice-here second) (c .before .before .before .before .flush .ensures) (c .settled .ensures)
+    pair-goes (start (first-write second) .pre) (twice-here second) (c .before .before .before .before .flush .ensures) (c .settled .ensures)
 
 log-length : tie.Need-same-length-8
 log-length c = ap length (written c .log-after) ∙ simp length-set

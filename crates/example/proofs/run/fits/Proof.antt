@@ -19,25 +19,29 @@ other-work : tie.Need-returns-3
 other-work c =
     let short = c .before .before in
     let a = short .before .args in
-    sym (fits-other-work (a .image) (a .log) (a .work) (a .addr) (a .rounds) (short .if1 .left) (c .before .if2 .left) (c .if3 .taken))
+    sym (fits-other-work (a .image) (a .log) (a .work) (a .addr) (a .rounds)
+    (short .if1 .left) (c .before .if2 .left) (c .if3 .taken))
 
 outside : tie.Need-returns-4
 outside c =
     let short = c .before .before .before in
     let a = short .before .args in
-    sym (fits-outside (a .image) (a .log) (a .work) (a .addr) (a .rounds) (short .if1 .left) (c .before .before .if2 .left) (c .before .if3 .left) (omega arith))
+    sym (fits-outside (a .image) (a .log) (a .work) (a .addr) (a .rounds)
+    (short .if1 .left) (c .before .before .if2 .left) (c .before .if3 .left) (omega arith))
 
 many : tie.Need-returns-5
 many c =
     let short = c .before .before .before .before in
     let a = short .before .args in
-    sym (fits-many (a .image) (a .log) (a .work) (a .addr) (a .rounds) (short .if1 .left) (c .before .before .before .if2 .left) (c .before .before .if3 .left) (omega arith) (omega arith))
+    sym (fits-many (a .image) (a .log) (a .work) (a .addr) (a .rounds)
+    (short .if1 .left) (c .before .before .before .if2 .left) (c .before .before .if3 .left) (omega arith) (omega arith))
 
 done : tie.Need-returns-6
 done c =
     let short = c .before .before .before .before in
     let a = short .before .args in
-    sym (fits-done (a .image) (a .log) (a .work) (a .addr) (a .rounds) (short .if1 .left) (c .before .before .before .if2 .left) (c .before .before .if3 .left) (omega arith) (omega arith))
+    sym (fits-done (a .image) (a .log) (a .work) (a .addr) (a .rounds)
+    (short .if1 .left) (c .before .before .before .if2 .left) (c .before .before .if3 .left) (omega arith) (omega arith))
 
 pub fits-spec : {M : Type 1} → statement M
 fits-spec = tie.close (tie.spec long other-log other-work outside many done)

@@ -4,6 +4,7 @@ use Prim.Native.Nat.{ℕ, _+_, _-_, _≤_}
 use native.Mathlib.Omega.{arith}
 use mathlib.Core.Path.{_≡_, subst}
 use borrow.Author.Needs.{needs}
+use Rattle.records.specs.Desk.{desk}
 use Rattle.example.specs.Steps.{Under, Repeats}
 use Rattle.example.specs.declared.RunAnswer.the-variants.{Done}
 use Rattle.example.proofs.Arms.{done-goes-on}
@@ -13,13 +14,13 @@ use Rattle.example.proofs.run.repeat.Tie as tie
 
 abbrev Inv-loop : tie.InvT-loop
 Inv-loop image₀ log₀ sheet work₀ addr val0 val1 rounds current₀ done₀ image log work current done =
-    (done ≤ rounds) × Under image current log sheet work addr val0 val1 × Repeats image₀ log₀ work₀ addr val0 val1 done Done image log work
+    (done ≤ rounds) × Under (desk image current log) sheet work addr val0 val1 × Repeats image₀ log₀ work₀ addr val0 val1 done Done image log work
 
 abbrev μ-loop : tie.MeasureT-loop
 μ-loop image₀ log₀ sheet work₀ addr val0 val1 rounds current₀ done₀ image log work current done = rounds - done
 
 loop-holds : tie.Need-loop-holds Inv-loop μ-loop
-loop-holds c = (omega arith, c .before .before .before .before .pre, repeats-none _ _ _ _ _ _)
+loop-holds c = (omega arith, c .before .before .before .before .pre, repeats-none)
 
 -- no round stops the rounds
 never-stopped : tie.At-match-keys2 Inv-loop μ-loop → ⊥
@@ -31,14 +32,16 @@ loop-again c =
     let turn = round .before .before .before .before .before in
     let a = turn .before .before .before .before .before .args in
     let more : turn .loop .done + 1 ≤ a .rounds = omega arith in
-    (more, under-after (turn .loop .inv .1) (round .round .ensures) (first-value (a .val0) (a .val1)), repeats-more _ _ _ _ _ _ (turn .loop .done) (turn .loop .inv .2) (round .round .ensures))
+    let under = under-after (turn .loop .inv .1) (round .round .ensures) (first-value (a .val0) (a .val1)) in
+    (more, under, repeats-more (turn .loop .inv .2) (round .round .ensures))
 
 repeated : tie.Need-returns-2 Inv-loop μ-loop
 repeated c =
     let turn = c .before .loop in
     let a = c .before .before .before .before .before .before .args in
     let all : turn .done ≡ a .rounds = omega (arith, turn .inv .0) in
-    subst (λ (n : ℕ). Repeats (a .image .now) (a .log .now) (a .work .now) (a .addr) (a .val0) (a .val1) n Done (turn .image) (turn .log) (turn .work)) all (turn .inv .2)
+    subst (λ (n : ℕ). Repeats (a .image .now) (a .log .now) (a .work .now) (a .addr) (a .val0) (a .val1) n Done (turn .image) (turn .log) (turn .work)) all
+    (turn .inv .2)
 
 pub repeat-spec : {M : Type 1} → statement M
 repeat-spec =
@@ -48,7 +51,7 @@ repeat-spec =
     (λ c κs. c .before .before .before .before .loop .inv .1) (λ c. search needs)
     (λ c. absurd (never-stopped c)) (λ c. absurd (never-stopped c)) (λ c. absurd (never-stopped c)) (λ c. absurd (never-stopped c))
     (λ c. omega arith) (λ c. omega arith) loop-again
-    (λ c. image-length _ _ _ _ _ _ _ (c .before .loop .inv .2))
-    (λ c. log-length _ _ _ _ _ _ _ (c .before .loop .inv .2))
-    (λ c. work-length _ _ _ _ _ _ _ (c .before .loop .inv .2) (c .before .before .before .before .before .before .pre .same))
+    (λ c. image-length (c .before .loop .inv .2))
+    (λ c. log-length (c .before .loop .inv .2))
+    (λ c. work-length (c .before .loop .inv .2) (c .before .before .before .before .before .before .pre .same))
     repeated)

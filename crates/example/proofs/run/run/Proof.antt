@@ -1,4 +1,4 @@
--- `example::run::run` meets its contract. The tests before the opening give 1, 2 and 12; the sheet says `valid`, so the opening gives 6 exactly where the
+-- `example::run::run` meets its contract. The tests before the opening give 1, 2 and 12; the sheet says `app-valid`, so the opening gives 6 exactly where the
 -- image is not; from a good opening the rounds go on to their end. Assumes nothing.
 use Prim.Native.Nat.{ℕ, _<_, _^_}
 use native.Mathlib.Omega.{arith}
@@ -9,7 +9,7 @@ use lib.ListN.{length}
 use borrow.Author.Needs.{needs}
 use Rattle.region.specs.Answer.{answer-number}
 use Rattle.sheet.specs.Sheet.{well-formed, obeys, address-bits}
-use Rattle.example.specs.Valid.{valid}
+use Rattle.example.specs.Valid.{app-valid}
 use Rattle.example.proofs.SheetLaws.{app-sheet-formed, sheet-says-valid}
 use Rattle.example.proofs.NumberLaws.{Fit, number-0-fits, run-unfit, runs-refused, opening-refused, opening-good, run-goes}
 use Rattle.example.proofs.run.run.Statement.{statement}
@@ -39,30 +39,31 @@ formed-here c =
     ap well-formed (c .app-sheet .ensures) ∙ app-sheet-formed _ _ _ (address-here (tested c)) (at .fits .val0 .fits) (at .fits .val1 .fits)
 
 says-here : (c : tie.After-app-sheet) (before after : List ℕ) → let a = start (tested c) .args in
-    obeys (c .app-sheet .result) before after ≡ valid (a .addr) (a .val0) (a .val1) after
+    obeys (c .app-sheet .result) before after ≡ app-valid (a .addr) (a .val0) (a .val1) after
 says-here c before after =
     let at = start (tested c) in
-    ap (λ (s : List ℕ). obeys s before after) (c .app-sheet .ensures) ∙ sheet-says-valid _ _ _ (address-here (tested c)) (at .fits .val0 .fits) (at .fits .val1 .fits) before after
+    ap (λ (s : List ℕ). obeys s before after) (c .app-sheet .ensures)
+    ∙ sheet-says-valid _ _ _ (address-here (tested c)) (at .fits .val0 .fits) (at .fits .val1 .fits) before after
 
 unfit : tie.Need-returns
 unfit c =
     let a = c .before .before .before .before .before .before .before .args in
     let told = c .before .asked in
-    runs-refused _ _ _ _ _ _ _ _ (run-unfit (a .image .now) (a .log .now) (a .work .now) (a .addr) (a .val0) (a .val1) (a .rounds) (told .given .0 .0)
+    runs-refused _ (run-unfit (a .image .now) (a .log .now) (a .work .now) (a .addr) (a .val0) (a .val1) (a .rounds) (told .given .0 .0)
     (sym (c .before .before .before .fits2 .ensures) ∙ ap answer-number (told .given .1)))
 
 broken : tie.Need-returns-2
 broken c =
     let opening = c .before .before .before in
     let sheet = with-sheet opening in
-    opening-refused _ _ _ _ _ _ _ _ (fit-here (tested sheet)) (formed-here sheet) (says-here sheet) (opening .«open» .ensures) (c .before .answer .given .1)
+    opening-refused _ _ _ _ _ _ _ (fit-here (tested sheet)) (formed-here sheet) (says-here sheet) (opening .«open» .ensures) (c .before .answer .given .1)
 
 opened : tie.Need-repeat-requires
 opened c κs =
     let done = c .before .before .before .before .before in
     let opening = done .before .before in
     let sheet = with-sheet opening in
-    opening-good _ _ _ _ _ _ _ _ (fit-here (tested sheet)) (formed-here sheet) (says-here sheet) (opening .«open» .ensures) (done .enum-told2 .given .1)
+    opening-good _ _ _ _ _ _ _ (fit-here (tested sheet)) (formed-here sheet) (says-here sheet) (opening .«open» .ensures) (done .enum-told2 .given .1)
 
 repeated : tie.Need-returns-3
 repeated c =
@@ -70,7 +71,8 @@ repeated c =
     let done = rounds .before .before .before .before .before .before in
     let opening = done .before .before in
     let sheet = with-sheet opening in
-    run-goes _ _ _ _ _ _ _ _ (fit-here (tested sheet)) (formed-here sheet) (says-here sheet) (opening .«open» .ensures) (done .enum-told2 .given .1) (rounds .repeat .ensures)
+    run-goes _ _ _ _ _ _ _ (fit-here (tested sheet)) (formed-here sheet) (says-here sheet) (opening .«open» .ensures) (done .enum-told2 .given .1)
+    (rounds .repeat .ensures)
 
 pub run-spec : {M : Type 1} → statement M
 run-spec =
