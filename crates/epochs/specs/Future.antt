@@ -23,7 +23,8 @@ pub record TellsEpoch (K : ℕ) (tape : List ℕ) (start : ℕ) (e : Foreseen) :
 -- and so on from the place behind its rows
 pub data Tells (K : ℕ) (tape : List ℕ) : ℕ → List Foreseen → Type 0 where
   nothing : {start : ℕ} → Tells K tape start []
-  next : {start : ℕ} {e : Foreseen} {es : List Foreseen} → TellsEpoch K tape start e → Tells K tape (row-place K start (length (e .rows))) es → Tells K tape start (e ∷ es)
+  next : {start : ℕ} {e : Foreseen} {es : List Foreseen} → TellsEpoch K tape start e → Tells K tape (row-place K start (length (e .rows))) es
+      → Tells K tape start (e ∷ es)
 
 -- each row of the future has a bit for each chunk
 abbrev pub rows-of-width : ℕ → Foreseen → Type 0

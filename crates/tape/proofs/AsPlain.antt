@@ -4,7 +4,7 @@ use Prim.Native.Nat.{ℕ, _+_, _*_, _≤_}
 use native.Mathlib.Nat.{zero-add}
 use native.Mathlib.Omega.{arith}
 use mathlib.Core.Path.{_≡_, sym, ap, ap₂, _∙_}
-use mathlib.Core.Bool.{Bool, true, false}
+use mathlib.Core.Bool.{true, false}
 use mathlib.Core.List.{List}
 use lib.ListN.{length, take, drop, length-drop}
 use lib.Seq.{length-take-le, getD-take, getD-drop}
@@ -32,7 +32,7 @@ use Rattle.tape.specs.Memory.{TapeDesk}
 use Rattle.tape.specs.Write.{tape-write-number, TapeWrites}
 use Rattle.tape.specs.Flush.{tape-flush-number, TapeFlushes}
 use Rattle.tape.specs.Cut.{tape-cut-number, TapeCuts}
-use Rattle.tape.proofs.NumberLaws.{plainly-done, Ending, ending-done}
+use Rattle.tape.proofs.NumberLaws.{plainly-done, ending-done}
 
 -- the epoch's rows as a row table of its own
 abbrev pub epoch-table : (K n : ℕ) (tape : List ℕ) (start : ℕ) → List ℕ
@@ -59,8 +59,7 @@ module _ {t : TapeDesk} {tape : List ℕ} {t′ : TapeDesk} where
 
   pub tape-flush-is-a-flush : {answer : Answer} → TapeFlushes t tape answer t′ → tape-flush-number t tape ≡ 0 → Flushes (t .memory) answer (t′ .memory)
   tape-flush-is-a-flush p none =
-      let told : Ending true t tape = ending-done none in
-      let plain = flush-sound (t .memory) (facts-sound _ (t .memory .state) _ (told .facts)) in
+      let plain = flush-sound (t .memory) (facts-sound _ (t .memory .state) _ (ending-done true t tape none .facts)) in
       record { answers = p .answers ∙ none ∙ sym plain; leaves = ap (λ x. x .memory) (changed t (p .leaves) none) ∙ done-changed _ plain }
 
   -- the cut by the epoch's rows
@@ -70,10 +69,11 @@ module _ {t : TapeDesk} {tape : List ℕ} {t′ : TapeDesk} where
       let d = t .memory in
       let K = chunks d in
       let n = d .state .count in
-      let told : Ending false t tape = ending-done none in
+      let told = ending-done false t tape none in
       let fits = told .epoch .there .fits in
       let rows = sym (read K n tape (t .start) fits .0) in
-      let plain = cut-good d (epoch-table K n tape (t .start)) (facts-sound _ (d .state) _ (told .facts)) (epoch-table-right K n tape (t .start) fits (told .epoch .filled)) in
+      let right = epoch-table-right K n tape (t .start) fits (told .epoch .filled) in
+      let plain = cut-good d (epoch-table K n tape (t .start)) (facts-sound _ (d .state) _ (told .facts)) right in
       let found =
       predicted-cut (chunk-size d) tape (t .start) (view d) (told .foretold)
       ∙ ap (λ k. flush-selective (chunk-size d) (view d) (epoch-rows K k tape (t .start))) (writes-counted d (omega (arith, sized, told .facts .few)))

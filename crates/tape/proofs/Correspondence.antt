@@ -1,6 +1,6 @@
 -- The correspondence that pmem_async_equiv_t.rs sketches: for every log and every crash of it there is a tape that foretells just that crash, and the
 -- predicted image is the original's durable state for the resolved prophecies. The other way round a tape's cut is a crash. Assumes nothing.
-use Prim.Native.Nat.{ℕ, _≤_}
+use Prim.Native.Nat.{ℕ}
 use native.Mathlib.Omega.{arith}
 use mathlib.Core.Path.{_≡_, refl, sym, ap, subst, subst⁻¹, _∙_}
 use mathlib.Core.Logic.{_↔_}

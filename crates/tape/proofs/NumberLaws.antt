@@ -141,7 +141,7 @@ pub record Ending (flushing : Bool) (t : TapeDesk) (tape : List ℕ) : Type 0 wh
   pub epoch : Epoch (chunks (t .memory)) (t .memory .state .count) tape (t .start)
   pub foretold : flush-foretold tape (t .start) ≡ flushing
 
-module _ {flushing : Bool} {t : TapeDesk} {tape : List ℕ} where
+module _ (flushing : Bool) (t : TapeDesk) (tape : List ℕ) where
   pub ending-done : tape-ending-number flushing t tape ≡ 0 → Ending flushing t tape
   unfolding ending-number
   ending-done e =

@@ -4,7 +4,7 @@ use mathlib.Core.Path.{_≡_, refl, sym, ap, _∙_}
 use mathlib.Core.Bool.{Bool, true, false}
 use mathlib.Core.List.{List}
 use lib.ListN.{length}
-use Rattle.region.specs.Answer.{answer-number, refusal-number, if-done}
+use Rattle.region.specs.Answer.{answer-number, if-done}
 use Rattle.region.specs.Limits.{writes-limit}
 use Rattle.region.specs.declared.Refusal.{Refusal}
 use Rattle.region.specs.declared.Answer.{Answer}
@@ -24,7 +24,7 @@ use Rattle.tape.specs.Write.{tape-write-number, tape-written, TapeWrites
 use Rattle.tape.specs.Ending.{tape-ending-number, epoch-ended, Settles, Ends}
 use Rattle.tape.specs.Flush.{TapeFlushes}
 use Rattle.tape.specs.Cut.{TapeCuts}
-use Rattle.tape.proofs.NumberLaws.{Ending, ending-done}
+use Rattle.tape.proofs.NumberLaws.{ending-done}
 
 -- what a done call changes may be said otherwise, where that is the same for a done one
 done-agrees {ℓ} : {A : Type ℓ} (n : ℕ) {after after′ : A} (before : A) → (n ≡ 0 → after ≡ after′) → if-done n after before ≡ if-done n after′ before
@@ -35,8 +35,7 @@ done-agrees (suc why) before e = refl
 pub flushed-is-predicted : (t : TapeDesk) (tape : List ℕ) → tape-ending-number true t tape ≡ 0
     → predicted-now (t .memory) tape (t .start) ≡ readable (view (t .memory))
 flushed-is-predicted t tape none =
-    let told : Ending true t tape = ending-done none in
-    predicted-flush (chunk-size (t .memory)) tape (t .start) (view (t .memory)) (told .foretold)
+    predicted-flush (chunk-size (t .memory)) tape (t .start) (view (t .memory)) (ending-done true t tape none .foretold)
 
 module _ {t : TapeDesk} {tape : List ℕ} {answer : Answer} where
   module _ {w : Write} (number : answer-number answer ≡ tape-write-number t tape w) where
@@ -46,7 +45,8 @@ module _ {t : TapeDesk} {tape : List ℕ} {answer : Answer} where
     pub tape-writes-refused : (why : Refusal) → answer ≡ Refused why → TapeWrites t tape w answer t
     tape-writes-refused why e = record { answers = number; leaves = refused-left why _ (sym number ∙ ap answer-number e) }
 
-  module _ {flushing : Bool} (sized : length (t .memory .state .records) ≡ writes-limit) (number : answer-number answer ≡ tape-ending-number flushing t tape) where
+  module _ {flushing : Bool} (sized : length (t .memory .state .records) ≡ writes-limit)
+      (number : answer-number answer ≡ tape-ending-number flushing t tape) where
     pub ends-done : answer ≡ Done → {st′ : State} {next : ℕ} {image′ predicted′ : List ℕ} → Settles (t .memory) tape (t .start) next image′ predicted′
         → st′ ≡ emptied (t .memory .state) → Ends flushing t tape answer (by-tape (desk image′ st′ (t .memory .log)) next predicted′)
     ends-done e {st′} {next} {image′} {predicted′} s empty =

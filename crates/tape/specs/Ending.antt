@@ -1,4 +1,5 @@
--- How an epoch ends, by a flush or by a cut. Document 01: both meet 1, 10, 9, 11, take no rows, and move "the start past the epoch's header and rows, even with an empty log".
+-- How an epoch ends, by a flush or by a cut. Document 01: both meet 1, 10, 9, 11, take no rows, and move "the start past the epoch's header and rows,
+-- even with an empty log".
 use Prim.Native.Nat.{ℕ}
 use mathlib.Core.Path.{_≡_}
 use mathlib.Core.Bool.{Bool, Bool·beq}
@@ -28,7 +29,8 @@ ending-number flushing C L st log-length tape start predicted-length =
 
 abbrev pub tape-ending-number : (flushing : Bool) → TapeDesk → (tape : List ℕ) → ℕ
 tape-ending-number flushing t tape =
-    ending-number flushing (chunk-size (t .memory)) (length (t .memory .image)) (t .memory .state) (length (t .memory .log)) tape (t .start) (length (t .predicted))
+    let d = t .memory in
+    ending-number flushing (chunk-size d) (length (d .image)) (d .state) (length (d .log)) tape (t .start) (length (t .predicted))
 
 -- the epoch ended with this image: the log empty, the image predicted too, and the start past the epoch
 abbrev pub epoch-ended : TapeDesk → (image : List ℕ) → TapeDesk

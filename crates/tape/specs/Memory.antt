@@ -4,7 +4,6 @@ use Prim.Native.Nat.{ℕ}
 use mathlib.Core.Bool.{Bool, _&&_}
 use mathlib.Core.List.{List}
 use lib.Dec.{eqb}
-use lib.ListN.{length}
 use Rattle.region.specs.Answer.{if-done}
 use Rattle.records.specs.State.{sound-for}
 use Rattle.records.specs.Desk.{Desk}

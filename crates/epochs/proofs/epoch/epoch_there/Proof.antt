@@ -1,5 +1,5 @@
--- `epochs::epoch::epoch_there` meets its definition: a start past the end or another header is none; behind one of the two headers the room is compared with the
--- rows' bytes, with no sum of the start. Assumes nothing.
+-- `epochs::epoch::epoch_there` meets its definition: a start past the end or another header is none; behind one of the two headers the room is compared with
+-- the rows' bytes, with no sum of the start. Assumes nothing.
 use Prim.Native.Nat.{ℕ, _-_, _*_, _≤_}
 use native.Mathlib.Nat.{mul-le-mul}
 use native.Mathlib.Omega.{arith}

@@ -1,16 +1,14 @@
 -- `epochs::predict::predict` leaves the predicted image: over a copy of the image the log is replayed, whole under header 80 and by the epoch's rows under 00.
 -- Assumes nothing.
-use Prim.Native.Nat.{ℕ, _+_, _*_, _≤_}
+use Prim.Native.Nat.{ℕ, _*_}
 use native.Mathlib.Omega.{arith}
-use mathlib.Core.Path.{_≡_, sym, ap, subst⁻¹, _∙_}
+use mathlib.Core.Path.{_≡_, sym, ap, _∙_}
 use lib.ListN.{length}
 use borrow.Author.Needs.{needs}
-use Rattle.region.specs.Limits.{const-persistence-chunk-size}
 use Rattle.pieces.specs.AsyncSpec.{size-to-chunks}
 use Rattle.pieces.specs.Rows.{row-bytes}
 use Rattle.pieces.proofs.Laid.{update-whole}
 use Rattle.records.specs.Desk.{Desk, desk}
-use Rattle.records.specs.Log.{Remaining}
 use Rattle.epochs.proofs.PredictLaws.{whole-replay-is-predicted, selected-replay-is-predicted}
 use Rattle.epochs.proofs.predict.predict.Statement.{statement}
 use Rattle.epochs.proofs.predict.predict.Tie as tie

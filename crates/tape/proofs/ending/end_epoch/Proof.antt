@@ -20,7 +20,7 @@ start c = c .before .before .before .before .before .before .before
 
 -- the epoch may end so, where its test says so
 ending-here : (c : tie.After-enum-told) → let at = start c in Ending (at .args .flushing) (here at) (at .args .tape .now)
-ending-here c = ending-done (sym (c .before .before .ending .ensures .0) ∙ ap answer-number (c .enum-told .given .1))
+ending-here c = ending-done _ _ _ (sym (c .before .before .ending .ensures .0) ∙ ap answer-number (c .enum-told .given .1))
 
 settle-requires : tie.Need-settle-requires
 settle-requires c κs =

@@ -3,12 +3,11 @@
 use Prim.Native.Nat.{ℕ, _+_, _*_}
 use native.Mathlib.Omega.{arith}
 use mathlib.Core.Path.{_≡_, sym, ap, _∙_}
-use lib.ListN.{length}
 use borrow.Author.Needs.{needs}
-use Rattle.region.specs.Limits.{const-persistence-chunk-size}
 use Rattle.pieces.specs.AsyncSpec.{size-to-chunks}
 use Rattle.pieces.specs.Rows.{row-bytes}
 use Rattle.pieces.proofs.Laid.{update-whole}
+use Rattle.records.specs.Desk.{Desk, desk, chunk-size, chunks}
 use Rattle.tape.proofs.ending.settle.Statement.{statement}
 use Rattle.tape.proofs.ending.settle.Tie as tie
 
@@ -19,18 +18,16 @@ predicted-at c = c .before .before .before .before .before .before .before .befo
 abbrev start : tie.After-struct-known → tie.Start
 start c = predicted-at c .before .before .before .before .before .before .before
 
--- the image's length, and the width of its rows
-abbrev L : tie.After-struct-known → ℕ
-L c = length (start c .args .image .now)
+abbrev here : tie.Start → Desk
+here c = desk (c .args .image .now) (c .args .state) (c .args .log .now)
 
-width-is : (c : tie.After-struct-known) → c .before .row-bytes .result ≡ row-bytes (size-to-chunks const-persistence-chunk-size (L c))
-width-is c =
+-- the bytes of the epoch's rows, since the image keeps its length
+rows-are : (c : tie.After-struct-known) → let d = here (start c) in d .state .count * c .before .row-bytes .result ≡ d .state .count * row-bytes (chunks d)
+rows-are c =
+    let d = here (start c) in
     let same = c .before .before .before .before .before .lay .kept .0 in
-    c .before .row-bytes .ensures ∙ ap row-bytes (c .before .before .size-to-chunks .ensures ∙ ap (size-to-chunks const-persistence-chunk-size) same)
-
-rows-are : (c : tie.After-struct-known) → let n = start c .args .state .count in
-    n * c .before .row-bytes .result ≡ n * row-bytes (size-to-chunks const-persistence-chunk-size (L c))
-rows-are c = ap (λ (w : ℕ). start c .args .state .count * w) (width-is c)
+    ap (λ (w : ℕ). d .state .count * w)
+    (c .before .row-bytes .ensures ∙ ap row-bytes (c .before .before .size-to-chunks .ensures ∙ ap (size-to-chunks (chunk-size d)) same))
 
 mul-result : tie.Need-mul-result
 mul-result c = omega (arith, start c .pre .rows, rows-are c)

@@ -29,7 +29,7 @@ start c = ended c .before .before .before .before .before .before .before
 
 -- a done end tells that the epoch was right
 ending-here : (c : tie.After-enum-told) → let at = start c in Ending false (here at) (at .args .tape .now)
-ending-here c = ending-done (sym (ended c .end-epoch .ensures .answers) ∙ ap answer-number (c .enum-told .given .1))
+ending-here c = ending-done _ _ _ (sym (ended c .end-epoch .ensures .answers) ∙ ap answer-number (c .enum-told .given .1))
 
 add-rows : tie.Need-add-rows
 add-rows c = omega (arith, ending-here c .epoch .there .begins)

@@ -3,7 +3,6 @@
 use Prim.Native.Nat.{ℕ}
 use native.Mathlib.Omega.{arith}
 use mathlib.Core.Path.{_≡_, refl, sym, ap, ap₂, subst⁻¹, _∙_}
-use mathlib.Core.Bool.{true}
 use mathlib.Core.List.{List}
 use lib.ListN.{length}
 use borrow.Author.Needs.{needs}
@@ -15,9 +14,10 @@ use Rattle.records.specs.Desk.{Desk, desk, with-write}
 use Rattle.records.proofs.Soundness.{Told, told-bytes, told-unsound}
 use Rattle.epochs.specs.Predictable.{Predictable}
 use Rattle.epochs.specs.Foretold.{predicted-now}
-use Rattle.tape.specs.Memory.{TapeDesk, by-tape, tape-sound-for}
+use Rattle.tape.specs.Memory.{TapeDesk, by-tape}
 use Rattle.tape.specs.Write.{tape-write-number}
-use Rattle.tape.proofs.NumberLaws.{unsound, missized, tape-sound-there, TapeWritten, tape-write-unsound, tape-write-sound, tape-write-done, predictable-with}
+use Rattle.tape.proofs.NumberLaws.{unsound, missized, tape-sound-there, tape-write-unsound, tape-write-sound}
+use Rattle.tape.proofs.NumberLaws.{TapeWritten, tape-write-done, predictable-with}
 use Rattle.tape.proofs.PromiseLaws.{tape-writes-done, tape-writes-refused}
 use Rattle.tape.proofs.tape_write.tape_write.Statement.{statement}
 use Rattle.tape.proofs.tape_write.tape_write.Tie as tie
