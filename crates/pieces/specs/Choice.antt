@@ -8,12 +8,12 @@ use Rattle.region.specs.Tab.{tab}
 use Rattle.pieces.specs.AsyncSpec.{Write, addr-to-chunk}
 
 -- "A write touches no chunk if it is empty, otherwise those from addr div 8 to (addr+len-1) div 8": how many these are
-unfoldable pub touched : ℕ → ℕ → ℕ → ℕ
+unfoldable pub touched : (C addr n : ℕ) → ℕ
 touched C addr zero = 0
 touched C addr (suc n) = suc (addr-to-chunk C (addr + n) - addr-to-chunk C addr)
 
 -- the touched chunks are a run from the chunk of addr on
-abbrev pub touches : ℕ → ℕ → ℕ → ℕ → Bool
+abbrev pub touches : (C addr n c : ℕ) → Bool
 touches C addr n c = leb (addr-to-chunk C addr) c && ltb c (addr-to-chunk C addr + touched C addr n)
 
 -- "Each touched chunk is one choice point": the number of points of a log
@@ -26,10 +26,10 @@ abbrev pub keeps-point : (m i : ℕ) → Bool
 keeps-point m i = eqb (m / 2 ^ i % 2) 1
 
 -- the row that m's lowest points give a write: its touched chunks, lowest first
-unfoldable pub row-of : ℕ → ℕ → Write → ℕ → List Bool
+unfoldable pub row-of : (C K : ℕ) → Write → (m : ℕ) → List Bool
 row-of C K w m = tab (λ c. touches C (w .addr) (length (w .bytes)) c && keeps-point m (c - addr-to-chunk C (w .addr))) K
 
 -- "Points are numbered from 0, oldest write first, lowest chunk first": the rows of choice number m, for K chunks
-unfoldable pub rows-of : ℕ → ℕ → List Write → ℕ → List (List Bool)
+unfoldable pub rows-of : (C K : ℕ) → List Write → (m : ℕ) → List (List Bool)
 rows-of C K [] m = []
 rows-of C K (w ∷ ws) m = row-of C K w m ∷ rows-of C K ws (m / 2 ^ touched C (w .addr) (length (w .bytes)))

@@ -1,12 +1,10 @@
 // A row of a row table, where it lies: K bits, chunk 0 in the top bit of its first byte.
+use bits::BYTE_BITS;
 ghost use mathlib.Core.Path.{_≡_};
 ghost use Prim.Native.Nat.{_+_, _-_, _*_, _/_, _%_, _^_, _≤_, _<_};
 ghost use lib.ListN.{length};
 ghost use lib.Count.{ones};
 ghost use Rattle.pieces.specs.Rows.{row-bit, row-bytes, set-bits, row-filled, rows-filled};
-
-// The bits of a byte.
-pub const BYTE_BITS: usize = 8;
 
 // The bytes of a row of `chunks` bits.
 pub fn row_bytes(chunks: usize) -> usize

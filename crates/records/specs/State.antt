@@ -32,7 +32,8 @@ records-inside L (r ∷ rs) = leb (r .addr + r .len) L && records-inside L rs
 -- refusal 1, as far as every call meets it: "L over 4096; a record outside L or over the log's budgets; log buffer not 1024 bytes"
 unfoldable pub sound-for : (L : ℕ) → State → (log-length : ℕ) → Bool
 sound-for L st log-length =
-    leb L image-limit && eqb log-length log-limit && leb (st .count) writes-limit && records-inside L (log-records st) && leb (together (log-records st)) log-limit
+    leb L image-limit && eqb log-length log-limit && leb (st .count) writes-limit
+    && records-inside L (log-records st) && leb (together (log-records st)) log-limit
 
 -- the record of a write
 abbrev pub record-of : Write → Record

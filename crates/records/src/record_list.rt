@@ -32,7 +32,7 @@ pub fn append(records: &mut [Record], at: usize, r: Record) -> bool
 }
 
 // The record at index i, or the zero record past the array's last: the local array is lent to `lookup`.
-fn record_of(records: [Record; WRITES_LIMIT], i: usize) -> Record
+fn record_in(records: [Record; WRITES_LIMIT], i: usize) -> Record
     ensures { λ r. ⌜ r ≡ getD records i no-record ⌝ }
 {
     lookup(&records, i)
@@ -52,7 +52,7 @@ pub fn record_at(state: State, i: usize) -> Record
     ensures { λ r. ⌜ r ≡ getD (state .records) i no-record ⌝ }
 {
     let records = state.records;
-    record_of(records, i)
+    record_in(records, i)
 }
 
 // The state with r at index count; the count stays.

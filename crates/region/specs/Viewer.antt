@@ -18,18 +18,18 @@ chosen First first second = first
 chosen Second first second = second
 
 -- the number: 1 is "L over 4096", 2 is "addr + len > L, in whole numbers"
-abbrev pub viewer-number : ℕ → ℕ → ℕ → ℕ
+abbrev pub viewer-number : (L addr len : ℕ) → ℕ
 viewer-number L addr len =
     unless (leb L image-limit) 1
     (unless (leb (addr + len) L) 2
     0)
 
 -- the part's bytes: those asked for, or none
-abbrev pub viewer-part : List ℕ → ℕ → ℕ → List ℕ
+abbrev pub viewer-part : (image : List ℕ) (addr len : ℕ) → List ℕ
 viewer-part image addr len = if-done (viewer-number (length image) addr len) (extract-bytes image addr len) []
 
 -- how far into the image the part starts. The empty part of a refusal stands at the image's first byte.
-abbrev pub viewer-start : ℕ → ℕ → ℕ → ℕ
+abbrev pub viewer-start : (L addr len : ℕ) → ℕ
 viewer-start L addr len = if-done (viewer-number L addr len) addr 0
 
 -- The part is of the image's own memory: the same block, that far into it, and these bytes. So place, length and bytes are settled, which is all

@@ -17,10 +17,13 @@ use Rattle.pieces.proofs.Laid.{lay, lay-none, lay-kept, lay-lost}
 use Rattle.pieces.proofs.lay.lay_chosen.Statement.{statement}
 use Rattle.pieces.proofs.lay.lay_chosen.Tie as tie
 
+abbrev C : ℕ
+C = const-persistence-chunk-size
+
 -- the addresses that the row of m keeps
-abbrev chosen : List ℕ → ℕ → List ℕ → ℕ → ℕ → Bool
+abbrev chosen : (work : List ℕ) (addr : ℕ) (bytes : List ℕ) (m i : ℕ) → Bool
 chosen work addr bytes m i =
-    getD (row-of const-persistence-chunk-size (size-to-chunks const-persistence-chunk-size (length work)) (record { addr = addr; bytes = bytes }) m) (i / const-persistence-chunk-size) false
+    getD (row-of C (size-to-chunks C (length work)) (record { addr = addr; bytes = bytes }) m) (i / C) false
 
 abbrev Inv-loop : tie.InvT-loop
 Inv-loop work₀ addr bytes m first j₀ work j = (j ≤ length bytes) × (length work ≡ length work₀) × (work ≡ lay (chosen work₀ addr bytes m) work₀ addr (take j bytes))
@@ -45,7 +48,7 @@ loop-again c =
     let i = a .addr + at-loop .j in
     let more : at-loop .j < length (a .bytes .now) = omega arith in
     let fits : a .addr + at-loop .j < length (a .work .now) = omega arith in
-    let here : keep start i ≡ keeps-point (a .m) (i / const-persistence-chunk-size - a .addr / const-persistence-chunk-size) =
+    let here : keep start i ≡ keeps-point (a .m) (i / C - a .addr / C) =
     chosen-bit _ (a .addr) (a .bytes .now) (a .m) (at-loop .j) more (omega arith) in
     let next = ap (λ (n : ℕ). lay (keep start) (a .work .now) (a .addr) (take n (a .bytes .now))) (sym (add-one (at-loop .j))) in
     ⊎-elim

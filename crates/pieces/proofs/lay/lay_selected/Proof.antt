@@ -17,9 +17,12 @@ use Rattle.pieces.proofs.Laid.{lay, lay-agree, lay-none, lay-kept, lay-
 use Rattle.pieces.proofs.lay.lay_selected.Statement.{statement}
 use Rattle.pieces.proofs.lay.lay_selected.Tie as tie
 
+abbrev C : ℕ
+C = const-persistence-chunk-size
+
 -- the addresses that the row keeps
 abbrev kept-at : List ℕ → ℕ → ℕ → Bool
-kept-at rows at i = row-bit rows at (i / const-persistence-chunk-size)
+kept-at rows at i = row-bit rows at (i / C)
 
 abbrev Inv-loop : tie.InvT-loop
 Inv-loop work₀ addr bytes rows at j₀ work j = (j ≤ length bytes) × (length work ≡ length work₀) × (work ≡ lay (kept-at rows at) work₀ addr (take j bytes))
@@ -59,13 +62,13 @@ unfolding apply-write-selective lay
 all-laid c =
     let start = c .before .before .before .before .before in
     let a = start .args in
-    let K = size-to-chunks const-persistence-chunk-size (length (a .work .now)) in
+    let K = size-to-chunks C (length (a .work .now)) in
     let done : c .before .loop .j ≡ length (a .bytes .now) = omega arith in
     c .before .loop .inv .2
     ∙ ap (λ (n : ℕ). lay (keep start) (a .work .now) (a .addr) (take n (a .bytes .now))) done
     ∙ ap (lay (keep start) (a .work .now) (a .addr)) (take-length (a .bytes .now))
-    ∙ lay-agree (keep start) (λ i. getD (row-at K (a .rows .now) (a .at)) (i / const-persistence-chunk-size) false) (a .work .now) (a .addr) (a .bytes .now)
-    (λ i h. sym (row-at-bit K (a .rows .now) (a .at) (i / const-persistence-chunk-size) (omega arith)))
+    ∙ lay-agree (keep start) (λ i. getD (row-at K (a .rows .now) (a .at)) (i / C) false) (a .work .now) (a .addr) (a .bytes .now)
+    (λ i h. sym (row-at-bit K (a .rows .now) (a .at) (i / C) (omega arith)))
 
 pub lay-selected-spec : {M : Type 1} → statement M
 lay-selected-spec =

@@ -20,6 +20,9 @@ use Rattle.records.proofs.log.+replay_selected.Lts-replay_selected as l
 use Rattle.records.proofs.log.+replay_selected.{statement}
 use Rattle.records.proofs.log.+replay_selected.Tie.{close}
 
+abbrev C : ℕ
+C = const-persistence-chunk-size
+
 -- the last argument, how many writes are left
 abbrev μ : Measures 3 kinds.ps ℕ
 μ κs a = a .1 .1 .1 .1 .1 .1 .1 .0
@@ -58,8 +61,8 @@ module _ (t : ℕ) where
   none-left c =
       let entry = c .before .before .before .before in
       let a = entry .args in
-      let rows = rows-at (size-to-chunks const-persistence-chunk-size (length (a .work .now))) (a .left) (a .rows .now) (a .row) in
-      ap (λ (ws : List Write). flush-writes-selective const-persistence-chunk-size (a .work .now) ws rows)
+      let rows = rows-at (size-to-chunks C (length (a .work .now))) (a .left) (a .rows .now) (a .row) in
+      ap (λ (ws : List Write). flush-writes-selective C (a .work .now) ws rows)
       (sym (no-more _ (a .state) _ (a .at) (a .left) (entry .pre .1 .0) (c .if1 .taken) (a .log .now)))
 
   lay-requires : lts.Need-lay-selected-requires (claims t) (at-measure t) own.Post
@@ -81,7 +84,7 @@ module _ (t : ℕ) where
       let a = start found .args in
       let put = c .before .before .before .before .before .before .lay-selected in
       c .before .before .replay-selected .ensures
-      ∙ selected-step (stepped found) (a .log .now) (a .work .now) const-persistence-chunk-size (a .rows .now) (a .row) (a .width) (some found) (start found .pre .1 .1 .0) (put .kept .0) (put .ensures)
+      ∙ selected-step (stepped found) (a .log .now) (a .work .now) C (a .rows .now) (a .row) (a .width) (some found) (start found .pre .1 .1 .0) (put .kept .0) (put .ensures)
 
 pub +replay-selected-spec : {M : Type 1} → statement M
 +replay-selected-spec = close μ λ t. lts.spec (claims t) (at-measure t) own.Post

@@ -1,5 +1,5 @@
 -- `records::log::kept` meets its contract: the sum so far and what the remaining records keep are what the whole log keeps. Assumes nothing.
-use Prim.Native.Nat.{_+_, _-_, _/_, _≤_}
+use Prim.Native.Nat.{ℕ, _+_, _-_, _/_, _≤_}
 use native.Mathlib.Omega.{arith}
 use mathlib.Core.Path.{_≡_, ap, _∙_}
 use Rattle.region.specs.Limits.{const-persistence-chunk-size}
@@ -8,6 +8,9 @@ use Rattle.pieces.specs.Rows.{set-bits, row-bit, row-bytes}
 use Rattle.records.proofs.KeptLaws.{touched-inside, Counting, Turn, count-starts, turn, count-ends}
 use Rattle.records.proofs.log.kept.Statement.{statement}
 use Rattle.records.proofs.log.kept.Tie as tie
+
+abbrev C : ℕ
+C = const-persistence-chunk-size
 
 abbrev Inv-loop : tie.InvT-loop
 Inv-loop state size rows row width count sum₀ place₀ i₀ sum place i = Counting size state rows row sum place i
@@ -25,7 +28,7 @@ start c = c .before .before .before .before
 abbrev found : tie.After-set-bits Inv-loop μ-loop → tie.After-record-at Inv-loop μ-loop
 found c = c .before .before .before
 
-width-is : (c : tie.At-loop Inv-loop μ-loop) → c .before .row-bytes .result ≡ row-bytes (size-to-chunks const-persistence-chunk-size (start c .args .size))
+width-is : (c : tie.At-loop Inv-loop μ-loop) → c .before .row-bytes .result ≡ row-bytes (size-to-chunks C (start c .args .size))
 width-is c = c .before .row-bytes .ensures ∙ ap row-bytes (c .before .before .size-to-chunks .ensures)
 
 -- what the record that is found brings
@@ -43,7 +46,7 @@ counted c =
     let bits = row-bit (start h .args .rows .now) (h .loop .place) in
     let r = found c .record-at .result in
     turn-here (found c) .after (c .set-bits .result) (h .before .row-bytes .result)
-    (c .set-bits .ensures ∙ ap (set-bits bits (r .addr / const-persistence-chunk-size)) (c .before .touched .ensures))
+    (c .set-bits .ensures ∙ ap (set-bits bits (r .addr / C)) (c .before .touched .ensures))
     (width-is h)
 
 set-bits-requires : tie.Need-set-bits-requires Inv-loop μ-loop
@@ -51,7 +54,7 @@ set-bits-requires c κs =
     let here = c .before .before in
     let a = start (head here) .args in
     let r = here .record-at .result in
-    let last : r .addr / const-persistence-chunk-size + c .touched .result ≤ size-to-chunks const-persistence-chunk-size (a .size) =
+    let last : r .addr / C + c .touched .result ≤ size-to-chunks C (a .size) =
     omega (arith, c .touched .ensures, touched-inside (a .size) (r .addr) (r .len) (turn-here here .lies)) in
     (omega (arith, start (head here) .pre .short), omega (arith, turn-here here .row-there))
 

@@ -1,4 +1,4 @@
--- `record_of` meets its contract: a walk of its MIR, by hand. The records of the local array are lent for a lifetime of the call, `lookup` is called on
+-- `record_in` meets its contract: a walk of its MIR, by hand. The records of the local array are lent for a lifetime of the call, `lookup` is called on
 -- them, and they come back. All that the proof knows of `lookup` is that it meets its contract. Assumes nothing.
 use Prim.Native.Nat.{ℕ, _<_, _^_}
 use mathlib.Core.Path.{_≡_, refl, sym}
@@ -46,12 +46,12 @@ use Rattle.records.proofs.record_list.lookup as lookup
 use Rattle.records.proofs.record_list.lookup.Symbol as lookup-def
 use Rattle.records.proofs.record_list.lookup.Symbol.{name as #lookup}
 use Rattle.records.proofs.record_list.lookup.Met as lookup-thm
-use Rattle.records.proofs.record_list.record_of.Key.{name as #record-of}
-use Rattle.records.proofs.record_list.record_of as record-of
-use Rattle.records.proofs.record_list.record_of.Statement as stated
-use Rattle.records.proofs.record_list.record_of.Code as code
+use Rattle.records.proofs.record_list.record_in.Key.{name as #record-in}
+use Rattle.records.proofs.record_list.record_in as record-in
+use Rattle.records.proofs.record_list.record_in.Statement as stated
+use Rattle.records.proofs.record_list.record_in.Code as code
 
-abbrev stayed : Stays (record-of.ended .signature .params) (record-of.ended .kept)
+abbrev stayed : Stays (record-in.ended .signature .params) (record-in.ended .kept)
 stayed = (stay-none (λ _. Records) yes, (stay-none (λ _. usize) yes, tt))
 
 module _ {M : Type 1} (𝓤 : URA M) (H : Heap 𝓤) (A : Atoms 𝓤) (W : Given 𝓤 H A) (mem : Memory → SProp 𝓤) (run : Routine → Fun 𝓤) where
@@ -63,17 +63,17 @@ module _ {M : Type 1} (𝓤 : URA M) (H : Heap 𝓤) (A : Atoms 𝓤) (W : Given
     abbrev found : Record
     found = getD ys i no-record
 
-    abbrev at : Vals record-of.signature tt
+    abbrev at : Vals record-in.signature tt
     at = (of-list ys ∷ [], (vint w64 i ∷ [], tt))
 
     abbrev Post : Val → SProp 𝓤
-    Post = walkOf 𝓤 H A record-of.ended stayed (record-of.clauses 𝓤 H A mem run) .post ((tt, tt, tt, (ys, (i, tt)), at), tt)
+    Post = walkOf 𝓤 H A record-in.ended stayed (record-in.clauses 𝓤 H A mem run) .post ((tt, tt, tt, (ys, (i, tt)), at), tt)
 
     exits : (r : Record) (u : Val) → r ≡ found
         → ent 𝓤 (sep 𝓤 (sem 𝓤 H A (R .own r (u ∷ []))) (sem 𝓤 H A (owns (Records ∷ usize ∷ []) (ys, (i, tt)) at))) (Post u)
     exits r u e =
         qed W (‵ (R .own r (u ∷ [])) ∷ ‵ (owns (Records ∷ usize ∷ []) (ys, (i, tt)) at) ∷ []) ∵
-        suffices ! _ (ends-at 𝓤 H A record-of.ended stayed (record-of.clauses 𝓤 H A mem run) W ((tt, tt, tt, (ys, (i, tt)), at), tt) u r (tt, (tt, tt)) (tt, (tt, tt))) $
+        suffices ! _ (ends-at 𝓤 H A record-in.ended stayed (record-in.clauses 𝓤 H A mem run) W ((tt, tt, tt, (ys, (i, tt)), at), tt) u r (tt, (tt, tt)) (tt, (tt, tt))) $
         says ! e $ move ! (1 ∷ 0 ∷ []) $ nothing ! $ done !
 
     -- the call, while the records at the base b are lent for κ under the name γ
@@ -91,7 +91,7 @@ module _ {M : Type 1} (𝓤 : URA M) (H : Heap 𝓤) (A : Atoms 𝓤) (W : Given
       said r = exE 𝓤 _ (λ ws. snd∗ 𝓤 (sem 𝓤 H A (lasts lookup.ended (κ, tt) (lent b γ ys, (i, tt)) ws)) (fact 𝓤 (r ≡ found)))
 
     module _ (C : Calls 𝓤 H) (Λ : Loops 𝓤 H) (fm : FmC 𝓤 H (W .laws) C) (known : Triple 𝓤 (C #lookup) Lookup) where
-      walk : ent 𝓤 (onEntry 𝓤 H A record-of.signature tt tt (ys, (i, tt)) at) (WpFn 𝓤 H C Λ code.function (of-list ys ∷ vint w64 i ∷ []) Post)
+      walk : ent 𝓤 (onEntry 𝓤 H A record-in.signature tt tt (ys, (i, tt)) at) (WpFn 𝓤 H C Λ code.function (of-list ys ∷ vint w64 i ∷ []) Post)
       walk =
           let typed = typed-list 𝓤 H A W ys is-list in
           qed W (‵ ftrue ∷ ‵ (owns (Records ∷ usize ∷ []) (ys, (i, tt)) at) ∷ []) ∵ enter ! C Λ code.function (of-list ys ∷ vint w64 i ∷ []) _ $
@@ -116,12 +116,12 @@ module _ {M : Type 1} (𝓤 : URA M) (H : Heap 𝓤) (A : Atoms 𝓤) (W : Given
           forget ! 1 refl $ move ! (1 ∷ 7 ∷ []) $ free1 ! $ frees-cell ! 4 refl refl $ frees-cell ! 2 refl refl $ free0 ! $
           keep ! (0 ∷ 3 ∷ []) $ by ! (exits r u e))))))))))))
 
-pub record-of-spec : {M : Type 1} → stated.statement M
+pub record-in-spec : {M : Type 1} → stated.statement M
 unfolding code.routine
-record-of-spec 𝓤 H 𝓜 𝓖 𝓡 =
+record-in-spec 𝓤 H 𝓜 𝓖 𝓡 =
     let A = 𝓖 .A in
     let W = givenOf 𝓤 H 𝓜 𝓖 in
-    by-walk 𝓤 H 𝓜 𝓖 𝓡 code.env record-of.ended stayed (record-of.clauses 𝓤 H A (𝓜 .mem) (𝓡 .run)) #record-of code.function (code.unfolded 𝓤 H 𝓜 𝓡)
+    by-walk 𝓤 H 𝓜 𝓖 𝓡 code.env record-in.ended stayed (record-in.clauses 𝓤 H A (𝓜 .mem) (𝓡 .run)) #record-in code.function (code.unfolded 𝓤 H 𝓜 𝓡)
     (goes-none 𝓤 H A W 0 (λ _. Records) yes (λ κs x f. refl), (goes-none 𝓤 H A W 0 (λ _. usize) yes (λ κs x f. refl), tt))
     (λ κs. (array-vals vals, (uint-vals w64, tt)))
     (λ κs. (list-tells, (uint-tells w64, tt)))
