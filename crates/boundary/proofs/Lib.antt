@@ -1,6 +1,5 @@
--- `WordLaws`: the state as words. `CallLaws`, `LogLaws`, `GateLaws` and `TapeLaws`: a function over a call that keeps its promise keeps its own.
+-- `WordLaws`: the state as words. `CallLaws`: a call at the desk that the words say, and what is lent for it, once for the calls with and without a tape.
+-- `FunctionLaws`: a function over a call that keeps its promise keeps its own.
 pub mod WordLaws
 pub mod CallLaws
-pub mod LogLaws
-pub mod GateLaws
-pub mod TapeLaws
+pub mod FunctionLaws

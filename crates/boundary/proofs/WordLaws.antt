@@ -51,7 +51,8 @@ len-at (r ∷ rs) zero = refl
 len-at (r ∷ rs) (suc i) = let k : suc (2 * suc i) ≡ suc (suc (suc (2 * i))) = omega arith in ap (λ (j : ℕ). getD (record-words (r ∷ rs)) j 0) k ∙ len-at rs i
 
 -- so a row of words has them too
-record-at : (n : ℕ) (words : List ℕ) (i : ℕ) → length words ≡ 2 * n → getD (records-of words) i no-record ≡ record { addr = getD words (2 * i) 0; len = getD words (suc (2 * i)) 0 }
+record-at : (n : ℕ) (words : List ℕ) (i : ℕ) → length words ≡ 2 * n
+    → getD (records-of words) i no-record ≡ record { addr = getD words (2 * i) 0; len = getD words (suc (2 * i)) 0 }
 record-at n words i e =
     let back = words-back n words e in
     ap₂ (λ (addr len : ℕ). record { addr = addr; len = len })
@@ -120,5 +121,6 @@ module _ (st : State) (sized : length (st .records) ≡ writes-limit) where
       let k : 1 + 2 * i + 1 + 1 ≡ 1 + 2 * (i + 1) = omega arith in
       let once = front-more words (words-of st) (1 + 2 * i) 0 (omega arith) (omega (arith, words-length)) (store-addr i) front in
       let next = set words (1 + 2 * i) (getD (st .records) i no-record .addr) in
-      let twice = front-more next (words-of st) (1 + 2 * i + 1) 0 (omega (arith, length-set words (1 + 2 * i) (getD (st .records) i no-record .addr))) (omega (arith, words-length)) (store-len i) once in
+      let sized-next = length-set words (1 + 2 * i) (getD (st .records) i no-record .addr) in
+      let twice = front-more next (words-of st) (1 + 2 * i + 1) 0 (omega (arith, sized-next)) (omega (arith, words-length)) (store-len i) once in
       ap (λ (j : ℕ). take j (set next (1 + 2 * i + 1) (getD (st .records) i no-record .len))) (sym k) ∙ twice ∙ ap (λ (j : ℕ). take j (words-of st)) k

@@ -5,7 +5,7 @@ use mathlib.Core.List.{List}
 use lib.ListN.{set}
 use Rattle.region.specs.Answer.{if-done}
 use Rattle.example.specs.Setup.{setup-number}
-use Rattle.example.specs.Run.{run-number, if-any-round, last-writes}
+use Rattle.example.specs.Run.{run-number, if-any-round, log-after-round}
 
 pub record SkaldriftSetup (image : List ℕ) (addr val0 number : ℕ) (image′ : List ℕ) : Type 0 where
   pub answers : number ≡ setup-number image addr
@@ -14,5 +14,5 @@ pub record SkaldriftSetup (image : List ℕ) (addr val0 number : ℕ) (image′ 
 pub record SkaldriftRun (image log work : List ℕ) (addr val0 val1 rounds number : ℕ) (image′ log′ work′ : List ℕ) : Type 0 where
   pub answers : number ≡ run-number image log work addr val0 val1 rounds
   pub image-after : image′ ≡ if-done (run-number image log work addr val0 val1 rounds) (if-any-round rounds (set image addr val0) image) image
-  pub log-after : log′ ≡ if-done (run-number image log work addr val0 val1 rounds) (if-any-round rounds (last-writes log val0 val1) log) log
+  pub log-after : log′ ≡ if-done (run-number image log work addr val0 val1 rounds) (if-any-round rounds (log-after-round log val0 val1) log) log
   pub work-after : work′ ≡ if-done (run-number image log work addr val0 val1 rounds) (if-any-round rounds (set image addr val0) work) work

@@ -3,13 +3,12 @@
 use Prim.Native.Nat.{ℕ}
 use mathlib.Core.Path.{_≡_}
 use mathlib.Core.List.{List}
-use Rattle.region.specs.Answer.{if-done}
 use Rattle.pieces.specs.AsyncSpec.{Write}
-use Rattle.records.specs.Desk.{Desk, with-write, opened-desk}
+use Rattle.records.specs.Desk.{with-write, opened-desk}
 use Rattle.gate.specs.Opening.{open-number}
 use Rattle.gate.specs.Judgement.{judgement, judgement-work, judge-report, judge-number}
 use Rattle.boundary.specs.Words.{reported}
-use Rattle.boundary.specs.Lent.{Lent, desk-of, lent-of, plainly, at-desk, Does}
+use Rattle.boundary.specs.Lent.{Lent, plainly, at-desk, Does}
 
 abbrev pub SkaldriftOpen : (m : Lent) (sheet : List ℕ) (number : ℕ) (m′ : Lent) → Type 0
 SkaldriftOpen m sheet number m′ = Does plainly (λ d. open-number d sheet) opened-desk m number m′

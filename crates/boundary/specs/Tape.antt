@@ -1,5 +1,5 @@
--- What skaldrift_tape_write, skaldrift_tape_flush and skaldrift_tape_cut promise: the number, and every lent word and byte and the tape's start afterwards. Each
--- is the call of `tape` at the desk that the words say.
+-- What skaldrift_tape_write, skaldrift_tape_flush and skaldrift_tape_cut promise: the number, and every lent word and byte and the tape's start afterwards.
+-- Each is the call of `tape` at the desk that the words say.
 use Prim.Native.Nat.{ℕ, _+_}
 use mathlib.Core.Path.{_≡_}
 use mathlib.Core.List.{List}

@@ -9,12 +9,14 @@ use gate::open::open;
 use region::Refusal;
 use region::numbers::answer_number;
 use region::numbers::refusal_number;
+ghost use Rattle.pieces.specs.AsyncSpec.{write-of};
+ghost use Rattle.boundary.specs.Lent.{lent};
 ghost use Rattle.boundary.specs.Gate.{SkaldriftOpen, SkaldriftJudge, SkaldriftGate};
 
 // Judges the image and starts an empty log. Of the state only its length is looked at.
 #[no_mangle]
 pub extern "C" fn skaldrift_open(state: &mut [u64], image: &[u8], log: &[u8], sheet: &[u8]) -> u64
-    ensures { λ r. ⌜ SkaldriftOpen (now (state .entry)) (now (image .entry)) (now (log .entry)) (now (sheet .entry)) r (now (state .exit)) ⌝ }
+    ensures { λ r. ⌜ SkaldriftOpen (lent (now (image .entry)) (now (state .entry)) (now (log .entry))) (now (sheet .entry)) r (lent (now (image .entry)) (now (state .exit)) (now (log .entry))) ⌝ }
 {
     if state.len() != STATE_WORDS {
         return refusal_number(Refusal::BadState);
@@ -38,7 +40,7 @@ pub extern "C" fn skaldrift_judge(
     data: &[u8],
     report: &mut u64,
 ) -> u64
-    ensures { λ r. ⌜ SkaldriftJudge (now (state .entry)) (now (image .entry)) (now (log .entry)) (now (sheet .entry)) (now (work .entry)) addr (now («data» .entry)) (now (report .entry)) r (now (work .exit)) (now (report .exit)) ⌝ }
+    ensures { λ r. ⌜ SkaldriftJudge (lent (now (image .entry)) (now (state .entry)) (now (log .entry))) (now (sheet .entry)) (now (work .entry)) (write-of addr (now («data» .entry))) (now (report .entry)) r (now (work .exit)) (now (report .exit)) ⌝ }
 {
     if state.len() != STATE_WORDS {
         return refusal_number(Refusal::BadState);
@@ -60,7 +62,7 @@ pub extern "C" fn skaldrift_gate(
     data: &[u8],
     report: &mut u64,
 ) -> u64
-    ensures { λ r. ⌜ SkaldriftGate (now (state .entry)) (now (image .entry)) (now (log .entry)) (now (sheet .entry)) (now (work .entry)) addr (now («data» .entry)) (now (report .entry)) r (now (state .exit)) (now (log .exit)) (now (work .exit)) (now (report .exit)) ⌝ }
+    ensures { λ r. ⌜ SkaldriftGate (lent (now (image .entry)) (now (state .entry)) (now (log .entry))) (now (sheet .entry)) (now (work .entry)) (write-of addr (now («data» .entry))) (now (report .entry)) r (lent (now (image .entry)) (now (state .exit)) (now (log .exit))) (now (work .exit)) (now (report .exit)) ⌝ }
 {
     if state.len() != STATE_WORDS {
         return refusal_number(Refusal::BadState);

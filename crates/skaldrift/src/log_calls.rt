@@ -12,7 +12,9 @@ use writelog::flush::flush;
 use writelog::read::read_fill;
 use writelog::write::write;
 ghost use mathlib.Core.Path.{_≡_};
+ghost use Rattle.pieces.specs.AsyncSpec.{write-of};
 ghost use Rattle.boundary.specs.Words.{state-words};
+ghost use Rattle.boundary.specs.Lent.{lent};
 ghost use Rattle.boundary.specs.Log.{SkaldriftWrite, SkaldriftRead, SkaldriftFlush, SkaldriftCut};
 
 // The words of a state: the length that every other function asks of `state`.
@@ -32,7 +34,7 @@ pub extern "C" fn skaldrift_write(
     addr: u64,
     data: &[u8],
 ) -> u64
-    ensures { λ r. ⌜ SkaldriftWrite (now (state .entry)) (now (image .entry)) (now (log .entry)) addr (now («data» .entry)) r (now (state .exit)) (now (log .exit)) ⌝ }
+    ensures { λ r. ⌜ SkaldriftWrite (lent (now (image .entry)) (now (state .entry)) (now (log .entry))) (write-of addr (now («data» .entry))) r (lent (now (image .entry)) (now (state .exit)) (now (log .exit))) ⌝ }
 {
     if state.len() != STATE_WORDS {
         return refusal_number(Refusal::BadState);
@@ -54,7 +56,7 @@ pub extern "C" fn skaldrift_read(
     addr: u64,
     len: u64,
 ) -> u64
-    ensures { λ r. ⌜ SkaldriftRead (now (state .entry)) (now (image .entry)) (now (log .entry)) (now (work .entry)) addr len r (now (work .exit)) ⌝ }
+    ensures { λ r. ⌜ SkaldriftRead (lent (now (image .entry)) (now (state .entry)) (now (log .entry))) (now (work .entry)) addr len r (now (work .exit)) ⌝ }
 {
     if state.len() != STATE_WORDS {
         return refusal_number(Refusal::BadState);
@@ -67,7 +69,7 @@ pub extern "C" fn skaldrift_read(
 // Makes the read image the image, and empties the log.
 #[no_mangle]
 pub extern "C" fn skaldrift_flush(state: &mut [u64], image: &mut [u8], log: &[u8]) -> u64
-    ensures { λ r. ⌜ SkaldriftFlush (now (state .entry)) (now (image .entry)) (now (log .entry)) r (now (state .exit)) (now (image .exit)) ⌝ }
+    ensures { λ r. ⌜ SkaldriftFlush (lent (now (image .entry)) (now (state .entry)) (now (log .entry))) r (lent (now (image .exit)) (now (state .exit)) (now (log .entry))) ⌝ }
 {
     if state.len() != STATE_WORDS {
         return refusal_number(Refusal::BadState);
@@ -88,7 +90,7 @@ pub extern "C" fn skaldrift_cut(
     rows: &[u8],
     report: &mut u64,
 ) -> u64
-    ensures { λ r. ⌜ SkaldriftCut (now (state .entry)) (now (image .entry)) (now (log .entry)) (now (rows .entry)) (now (report .entry)) r (now (state .exit)) (now (image .exit)) (now (report .exit)) ⌝ }
+    ensures { λ r. ⌜ SkaldriftCut (lent (now (image .entry)) (now (state .entry)) (now (log .entry))) (now (rows .entry)) (now (report .entry)) r (lent (now (image .exit)) (now (state .exit)) (now (log .entry))) (now (report .exit)) ⌝ }
 {
     if state.len() != STATE_WORDS {
         return refusal_number(Refusal::BadState);

@@ -9,6 +9,8 @@ use region::numbers::refusal_number;
 use tape::tape_cut::tape_cut;
 use tape::tape_flush::tape_flush;
 use tape::tape_write::tape_write;
+ghost use Rattle.pieces.specs.AsyncSpec.{write-of};
+ghost use Rattle.boundary.specs.Lent.{lent, lent-by-tape};
 ghost use Rattle.boundary.specs.Tape.{SkaldriftTapeWrite, SkaldriftTapeFlush, SkaldriftTapeCut};
 
 // Records a write of `data` at `addr`, judged by nobody, and predicts the image with it.
@@ -23,7 +25,7 @@ pub extern "C" fn skaldrift_tape_write(
     addr: u64,
     data: &[u8],
 ) -> u64
-    ensures { λ r. ⌜ SkaldriftTapeWrite (now (state .entry)) (now (image .entry)) (now (log .entry)) (now (tape .entry)) start (now (predicted .entry)) addr (now («data» .entry)) r (now (state .exit)) (now (log .exit)) (now (predicted .exit)) ⌝ }
+    ensures { λ r. ⌜ SkaldriftTapeWrite (lent-by-tape (lent (now (image .entry)) (now (state .entry)) (now (log .entry))) start (now (predicted .entry))) (now (tape .entry)) (write-of addr (now («data» .entry))) r (lent-by-tape (lent (now (image .entry)) (now (state .exit)) (now (log .exit))) start (now (predicted .exit))) ⌝ }
 {
     if state.len() != STATE_WORDS {
         return refusal_number(Refusal::BadState);
@@ -54,7 +56,7 @@ pub extern "C" fn skaldrift_tape_flush(
     start: &mut u64,
     predicted: &mut [u8],
 ) -> u64
-    ensures { λ r. ⌜ SkaldriftTapeFlush (now (state .entry)) (now (image .entry)) (now (log .entry)) (now (tape .entry)) (now (start .entry)) (now (predicted .entry)) r (now (state .exit)) (now (image .exit)) (now (start .exit)) (now (predicted .exit)) ⌝ }
+    ensures { λ r. ⌜ SkaldriftTapeFlush (lent-by-tape (lent (now (image .entry)) (now (state .entry)) (now (log .entry))) (now (start .entry)) (now (predicted .entry))) (now (tape .entry)) r (lent-by-tape (lent (now (image .exit)) (now (state .exit)) (now (log .entry))) (now (start .exit)) (now (predicted .exit))) ⌝ }
 {
     if state.len() != STATE_WORDS {
         return refusal_number(Refusal::BadState);
@@ -78,7 +80,7 @@ pub extern "C" fn skaldrift_tape_cut(
     predicted: &mut [u8],
     report: &mut u64,
 ) -> u64
-    ensures { λ r. ⌜ SkaldriftTapeCut (now (state .entry)) (now (image .entry)) (now (log .entry)) (now (tape .entry)) (now (start .entry)) (now (predicted .entry)) (now (report .entry)) r (now (state .exit)) (now (image .exit)) (now (start .exit)) (now (predicted .exit)) (now (report .exit)) ⌝ }
+    ensures { λ r. ⌜ SkaldriftTapeCut (lent-by-tape (lent (now (image .entry)) (now (state .entry)) (now (log .entry))) (now (start .entry)) (now (predicted .entry))) (now (tape .entry)) (now (report .entry)) r (lent-by-tape (lent (now (image .exit)) (now (state .exit)) (now (log .entry))) (now (start .exit)) (now (predicted .exit))) (now (report .exit)) ⌝ }
 {
     if state.len() != STATE_WORDS {
         return refusal_number(Refusal::BadState);

@@ -1,12 +1,12 @@
--- `skaldrift_gate` meets its contract: words of another number are refused before anything is touched, and the others are a state, at which the gate keeps its promise.
--- Assumes nothing.
+-- `skaldrift_gate` meets its contract: words of another number are refused before anything is touched, and the others are a state, at which the gate keeps its
+-- promise. Assumes nothing.
 use borrow.Author.Needs.{needs}
-use Rattle.boundary.proofs.GateLaws.{gate-wrong, gate-right}
+use Rattle.boundary.proofs.FunctionLaws.{gate-wrong, gate-right}
 use Rattle.skaldrift.proofs.gate_calls.skaldrift_gate.Statement.{statement}
 use Rattle.skaldrift.proofs.gate_calls.skaldrift_gate.Tie as tie
 
 wrong-words : tie.Need-returns
-wrong-words c = gate-wrong _ _ _ _ _ _ _ _ (c .before .if1 .taken) (c .refusal-number .ensures)
+wrong-words c = gate-wrong (c .before .if1 .taken) (c .refusal-number .ensures)
 
 right-words : tie.Need-returns-2
 right-words c =
@@ -14,8 +14,7 @@ right-words c =
     let at-gate = at-stored .before .before .before .before .before .before in
     let at-loaded = at-gate .before .before .before in
     let at-test = at-loaded .before .before in
-    gate-right _ _ _ _ _ _ _ _ (at-test .if1 .left) (at-gate .gate .result .verdict)
-    (at-loaded .loaded .ensures) (c .verdict-number .ensures .0) (c .verdict-number .ensures .1) (at-gate .gate .ensures) (at-stored .stored .ensures)
+    gate-right (at-test .if1 .left) (at-loaded .loaded .ensures) (c .verdict-number .ensures .0) (c .verdict-number .ensures .1) (at-stored .stored .ensures) (at-gate .gate .ensures)
 
 pub skaldrift-gate-spec : {M : Type 1} → statement M
 skaldrift-gate-spec =

@@ -1,20 +1,19 @@
--- `skaldrift_judge` meets its contract: words of another number are refused before anything is touched, and the others are a state, at which the judging call keeps its promise.
--- Assumes nothing.
+-- `skaldrift_judge` meets its contract: words of another number are refused before anything is touched, and the others are a state, at which the judging call
+-- keeps its promise. Assumes nothing.
 use borrow.Author.Needs.{needs}
-use Rattle.boundary.proofs.GateLaws.{judge-wrong, judge-right}
+use Rattle.boundary.proofs.FunctionLaws.{judge-wrong, judge-right}
 use Rattle.skaldrift.proofs.gate_calls.skaldrift_judge.Statement.{statement}
 use Rattle.skaldrift.proofs.gate_calls.skaldrift_judge.Tie as tie
 
 wrong-words : tie.Need-returns
-wrong-words c = judge-wrong _ _ _ _ _ _ _ _ (c .before .if1 .taken) (c .refusal-number .ensures)
+wrong-words c = judge-wrong (c .before .if1 .taken) (c .refusal-number .ensures)
 
 right-words : tie.Need-returns-2
 right-words c =
     let at-judge = c .before .before .before .before in
     let at-loaded = at-judge .before .before in
     let at-test = at-loaded .before in
-    judge-right _ _ _ _ _ _ _ _ (at-test .if1 .left) (at-judge .judge .result)
-    (at-loaded .loaded .ensures) (c .verdict-number .ensures .0) (c .verdict-number .ensures .1) (at-judge .judge .ensures)
+    judge-right (at-test .if1 .left) (at-loaded .loaded .ensures) (c .verdict-number .ensures .0) (c .verdict-number .ensures .1) (at-judge .judge .ensures)
 
 pub skaldrift-judge-spec : {M : Type 1} → statement M
 skaldrift-judge-spec =

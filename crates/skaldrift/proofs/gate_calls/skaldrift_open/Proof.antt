@@ -1,12 +1,13 @@
--- `skaldrift_open` meets its contract: words of another number are refused before anything is touched, and the others are a state, at which opening keeps its promise.
--- Assumes nothing.
+-- `skaldrift_open` meets its contract: words of another number are refused before anything is touched, and the others are a state, at which opening keeps its
+-- promise. Assumes nothing.
 use borrow.Author.Needs.{needs}
-use Rattle.boundary.proofs.GateLaws.{open-wrong, open-right}
+use Rattle.boundary.proofs.CallLaws.{wrong}
+use Rattle.boundary.proofs.FunctionLaws.{open-right}
 use Rattle.skaldrift.proofs.gate_calls.skaldrift_open.Statement.{statement}
 use Rattle.skaldrift.proofs.gate_calls.skaldrift_open.Tie as tie
 
 wrong-words : tie.Need-returns
-wrong-words c = open-wrong _ _ _ _ (c .before .if1 .taken) (c .refusal-number .ensures)
+wrong-words c = wrong (c .before .if1 .taken) (c .refusal-number .ensures)
 
 right-words : tie.Need-returns-2
 right-words c =
@@ -14,8 +15,7 @@ right-words c =
     let at-open = at-stored .before .before in
     let at-loaded = at-open .before in
     let at-test = at-loaded .before .before in
-    open-right _ _ _ _ (at-test .if1 .left)
-    (at-loaded .loaded .ensures) (at-open .open .ensures) (at-stored .stored .ensures) (c .answer-number .ensures)
+    open-right (at-test .if1 .left) (at-loaded .loaded .ensures) (at-stored .stored .ensures) (c .answer-number .ensures) (at-open .open .ensures)
 
 pub skaldrift-open-spec : {M : Type 1} → statement M
 skaldrift-open-spec =

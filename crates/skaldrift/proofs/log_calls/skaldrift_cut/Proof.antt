@@ -1,12 +1,12 @@
--- `skaldrift_cut` meets its contract: words of another number are refused before anything is touched, and the others are a state, at which the cut keeps its promise.
--- Assumes nothing.
+-- `skaldrift_cut` meets its contract: words of another number are refused before anything is touched, and the others are a state, at which the cut keeps its
+-- promise. Assumes nothing.
 use borrow.Author.Needs.{needs}
-use Rattle.boundary.proofs.LogLaws.{cut-wrong, cut-right}
+use Rattle.boundary.proofs.FunctionLaws.{cut-wrong, cut-right}
 use Rattle.skaldrift.proofs.log_calls.skaldrift_cut.Statement.{statement}
 use Rattle.skaldrift.proofs.log_calls.skaldrift_cut.Tie as tie
 
 wrong-words : tie.Need-returns
-wrong-words c = cut-wrong _ _ _ _ _ (c .before .if1 .taken) (c .refusal-number .ensures)
+wrong-words c = cut-wrong (c .before .if1 .taken) (c .refusal-number .ensures)
 
 right-words : tie.Need-returns-2
 right-words c =
@@ -14,8 +14,7 @@ right-words c =
     let at-cut = at-stored .before .before .before .before in
     let at-loaded = at-cut .before .before in
     let at-test = at-loaded .before .before in
-    cut-right _ _ _ _ _ (at-test .if1 .left)
-    (at-loaded .loaded .ensures) (at-cut .cut .ensures) (at-stored .stored .ensures) (c .cut-number .ensures .0) (c .cut-number .ensures .1)
+    cut-right (at-test .if1 .left) (at-loaded .loaded .ensures) (at-stored .stored .ensures) (c .cut-number .ensures .0) (c .cut-number .ensures .1) (at-cut .cut .ensures)
 
 pub skaldrift-cut-spec : {M : Type 1} → statement M
 skaldrift-cut-spec =

@@ -1,12 +1,13 @@
--- `skaldrift_flush` meets its contract: words of another number are refused before anything is touched, and the others are a state, at which the flush keeps its promise.
--- Assumes nothing.
+-- `skaldrift_flush` meets its contract: words of another number are refused before anything is touched, and the others are a state, at which the flush keeps
+-- its promise. Assumes nothing.
 use borrow.Author.Needs.{needs}
-use Rattle.boundary.proofs.LogLaws.{flush-wrong, flush-right}
+use Rattle.boundary.proofs.CallLaws.{wrong}
+use Rattle.boundary.proofs.FunctionLaws.{flush-right}
 use Rattle.skaldrift.proofs.log_calls.skaldrift_flush.Statement.{statement}
 use Rattle.skaldrift.proofs.log_calls.skaldrift_flush.Tie as tie
 
 wrong-words : tie.Need-returns
-wrong-words c = flush-wrong _ _ _ (c .before .if1 .taken) (c .refusal-number .ensures)
+wrong-words c = wrong (c .before .if1 .taken) (c .refusal-number .ensures)
 
 right-words : tie.Need-returns-2
 right-words c =
@@ -14,8 +15,7 @@ right-words c =
     let at-flush = at-stored .before .before .before .before in
     let at-loaded = at-flush .before .before in
     let at-test = at-loaded .before .before in
-    flush-right _ _ _ (at-test .if1 .left)
-    (at-loaded .loaded .ensures) (at-flush .flush .ensures) (at-stored .stored .ensures) (c .answer-number .ensures)
+    flush-right (at-test .if1 .left) (at-loaded .loaded .ensures) (at-stored .stored .ensures) (c .answer-number .ensures) (at-flush .flush .ensures)
 
 pub skaldrift-flush-spec : {M : Type 1} → statement M
 skaldrift-flush-spec =

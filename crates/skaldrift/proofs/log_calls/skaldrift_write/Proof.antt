@@ -1,12 +1,13 @@
--- `skaldrift_write` meets its contract: words of another number are refused before anything is touched, and the others are a state, at which the write keeps its promise.
--- Assumes nothing.
+-- `skaldrift_write` meets its contract: words of another number are refused before anything is touched, and the others are a state, at which the write keeps
+-- its promise. Assumes nothing.
 use borrow.Author.Needs.{needs}
-use Rattle.boundary.proofs.LogLaws.{write-wrong, write-right}
+use Rattle.boundary.proofs.CallLaws.{wrong}
+use Rattle.boundary.proofs.FunctionLaws.{write-right}
 use Rattle.skaldrift.proofs.log_calls.skaldrift_write.Statement.{statement}
 use Rattle.skaldrift.proofs.log_calls.skaldrift_write.Tie as tie
 
 wrong-words : tie.Need-returns
-wrong-words c = write-wrong _ _ _ _ _ (c .before .if1 .taken) (c .refusal-number .ensures)
+wrong-words c = wrong (c .before .if1 .taken) (c .refusal-number .ensures)
 
 right-words : tie.Need-returns-2
 right-words c =
@@ -14,8 +15,7 @@ right-words c =
     let at-write = at-stored .before .before .before .before in
     let at-loaded = at-write .before .before in
     let at-test = at-loaded .before .before in
-    write-right _ _ _ _ _ (at-test .if1 .left)
-    (at-loaded .loaded .ensures) (at-write .write .ensures) (at-stored .stored .ensures) (c .answer-number .ensures)
+    write-right (at-test .if1 .left) (at-loaded .loaded .ensures) (at-stored .stored .ensures) (c .answer-number .ensures) (at-write .write .ensures)
 
 pub skaldrift-write-spec : {M : Type 1} → statement M
 skaldrift-write-spec =

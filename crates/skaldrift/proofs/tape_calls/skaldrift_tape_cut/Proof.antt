@@ -1,12 +1,12 @@
--- `skaldrift_tape_cut` meets its contract: words of another number are refused before anything is touched, and the others are a state, at which the cut by tape keeps its promise.
--- Assumes nothing.
+-- `skaldrift_tape_cut` meets its contract: words of another number are refused before anything is touched, and the others are a state, at which the cut by
+-- tape keeps its promise. Assumes nothing.
 use borrow.Author.Needs.{needs}
-use Rattle.boundary.proofs.TapeLaws.{tape-cut-wrong, tape-cut-right}
+use Rattle.boundary.proofs.FunctionLaws.{tape-cut-wrong, tape-cut-right}
 use Rattle.skaldrift.proofs.tape_calls.skaldrift_tape_cut.Statement.{statement}
 use Rattle.skaldrift.proofs.tape_calls.skaldrift_tape_cut.Tie as tie
 
 wrong-words : tie.Need-returns
-wrong-words c = tape-cut-wrong _ _ _ _ _ _ _ (c .before .if1 .taken) (c .refusal-number .ensures)
+wrong-words c = tape-cut-wrong (c .before .if1 .taken) (c .refusal-number .ensures)
 
 right-words : tie.Need-returns-2
 right-words c =
@@ -14,8 +14,7 @@ right-words c =
     let at-cut = at-stored .before .before .before .before .before .before in
     let at-loaded = at-cut .before .before .before .before in
     let at-test = at-loaded .before .before in
-    tape-cut-right _ _ _ _ _ _ _ (at-test .if1 .left)
-    (at-loaded .loaded .ensures) (at-cut .tape-cut .ensures) (at-stored .stored .ensures) (c .cut-number .ensures .0) (c .cut-number .ensures .1)
+    tape-cut-right (at-test .if1 .left) (at-loaded .loaded .ensures) (at-stored .stored .ensures) (c .cut-number .ensures .0) (c .cut-number .ensures .1) (at-cut .tape-cut .ensures)
 
 pub skaldrift-tape-cut-spec : {M : Type 1} → statement M
 skaldrift-tape-cut-spec =

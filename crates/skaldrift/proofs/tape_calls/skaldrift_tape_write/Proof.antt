@@ -1,12 +1,13 @@
--- `skaldrift_tape_write` meets its contract: words of another number are refused before anything is touched, and the others are a state, at which the write by tape keeps its promise.
--- Assumes nothing.
+-- `skaldrift_tape_write` meets its contract: words of another number are refused before anything is touched, and the others are a state, at which the write by
+-- tape keeps its promise. Assumes nothing.
 use borrow.Author.Needs.{needs}
-use Rattle.boundary.proofs.TapeLaws.{tape-write-wrong, tape-write-right}
+use Rattle.boundary.proofs.CallLaws.{wrong}
+use Rattle.boundary.proofs.FunctionLaws.{tape-write-right}
 use Rattle.skaldrift.proofs.tape_calls.skaldrift_tape_write.Statement.{statement}
 use Rattle.skaldrift.proofs.tape_calls.skaldrift_tape_write.Tie as tie
 
 wrong-words : tie.Need-returns
-wrong-words c = tape-write-wrong _ _ _ _ _ _ _ _ (c .before .if1 .taken) (c .refusal-number .ensures)
+wrong-words c = wrong (c .before .if1 .taken) (c .refusal-number .ensures)
 
 right-words : tie.Need-returns-2
 right-words c =
@@ -14,8 +15,7 @@ right-words c =
     let at-write = at-stored .before .before .before .before .before .before in
     let at-loaded = at-write .before .before .before in
     let at-test = at-loaded .before .before in
-    tape-write-right _ _ _ _ _ _ _ _ (at-test .if1 .left)
-    (at-loaded .loaded .ensures) (at-write .tape-write .ensures) (at-stored .stored .ensures) (c .answer-number .ensures)
+    tape-write-right (at-test .if1 .left) (at-loaded .loaded .ensures) (at-stored .stored .ensures) (c .answer-number .ensures) (at-write .tape-write .ensures)
 
 pub skaldrift-tape-write-spec : {M : Type 1} → statement M
 skaldrift-tape-write-spec =
