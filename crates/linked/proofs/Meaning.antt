@@ -4,21 +4,18 @@ use native.Mathlib.Nat.{suc-ne-zero}
 use mathlib.Core.Path.{_≡_, refl, sym, ap, _∙_}
 use mathlib.Core.Logic.{_↔_}
 use mathlib.Core.List.{List}
-use lib.ListN.{length}
-use Rattle.region.specs.Limits.{const-persistence-chunk-size}
 use Rattle.region.specs.Answer.{answer-number}
-use Rattle.cuts.specs.Search.{least-bad}
-use Rattle.cuts.specs.Gate.{gate-numbers}
-use Rattle.sheet.specs.Sheet.{allows}
-use Rattle.records.specs.State.{view}
+use Rattle.pieces.specs.AsyncSpec.{Write}
 use Rattle.gate.specs.Judgement.{denied-number, verdict-report}
-use Rattle.gate.specs.Meaning.{Fits, image-of, Means, Openable}
+use Rattle.gate.specs.Meaning.{Openable}
 use Rattle.gate.specs.declared.Verdict.{Verdict}
 use Rattle.gate.specs.declared.Verdict.the-variants.{Admitted, Denied, Refused}
 use Rattle.gate.proofs.Gives.{opens-means}
-use Rattle.gate.proofs.Meaning.{denial-is-no-refusal, judge-means}
-use Rattle.boundary.specs.Words.{state-words, state-of, reported}
+use Rattle.gate.proofs.Meaning.{denial-is-no-refusal, judge-means, means-by-same}
+use Rattle.boundary.specs.Words.{reported}
+use Rattle.boundary.specs.Lent.{Lent, desk-of, plainly}
 use Rattle.boundary.specs.Gate.{SkaldriftOpen, SkaldriftJudge, SkaldriftGate}
+use Rattle.boundary.proofs.CallLaws.{state-sized}
 use Rattle.linked.specs.Meaning.{MeansByNumber}
 use Rattle.linked.proofs.Promises.{linked-open, linked-judge}
 use Rattle.linked.proofs.Runs.{done-of, admitted-of}
@@ -28,51 +25,39 @@ denied-of (Admitted n) same = absurd (suc-ne-zero 7 (sym same))
 denied-of (Denied m) same = (m, refl)
 denied-of (Refused why) same = absurd (denial-is-no-refusal why same)
 
-module _ (words : List ℕ) {image log sheet work : List ℕ} {addr : ℕ} {bytes : List ℕ} (report : ℕ) {number : ℕ} {work′ : List ℕ} {report′ : ℕ} (v : Verdict)
-    (same : verdict-report v .number ≡ number) (told : reported (verdict-report v) report ≡ report′) (means : Means image (state-of words) log sheet work addr bytes v work′) where
-  admitted : number ≡ 0 → (v ≡ Admitted report′)
-  admitted none = let (n, is) = admitted-of v (same ∙ none) in is ∙ ap Admitted (sym (ap (λ (v : Verdict). reported (verdict-report v) report) is) ∙ told)
+-- a verdict is admitted, or denied, exactly if its number says so and its report holds the value
+module _ (v : Verdict) (report : ℕ) {number report′ : ℕ} (same : verdict-report v .number ≡ number) (told : reported (verdict-report v) report ≡ report′) where
+  number-of : {v′ : Verdict} → v ≡ v′ → number ≡ verdict-report v′ .number
+  number-of is = sym same ∙ ap (λ (v : Verdict). verdict-report v .number) is
 
-  denied : number ≡ denied-number → (v ≡ Denied report′)
-  denied eight = let (m, is) = denied-of v (same ∙ eight) in is ∙ ap Denied (sym (ap (λ (v : Verdict). reported (verdict-report v) report) is) ∙ told)
+  report-of : {v′ : Verdict} → v ≡ v′ → report′ ≡ reported (verdict-report v′) report
+  report-of is = sym told ∙ ap (λ (v : Verdict). reported (verdict-report v) report) is
 
-  number-of : (v′ : Verdict) → v ≡ v′ → number ≡ verdict-report v′ .number
-  number-of v′ is = sym same ∙ ap (λ (v : Verdict). verdict-report v .number) is
-
-  first : (m : ℕ)
-      → ((number ≡ denied-number) × (report′ ≡ m))
-      ↔ (Fits image (state-of words) log sheet work addr bytes
-      × least-bad (λ k. allows sheet (image-of (view image (state-of words) log) addr bytes k)) (gate-numbers const-persistence-chunk-size (view image (state-of words) log) addr bytes) m)
-  first m = (
-    λ (eight, is). means .names-the-first m .0 (denied eight ∙ ap Denied is),
-    λ bad. let is = means .names-the-first m .1 bad in (number-of (Denied m) is, sym told ∙ ap (λ (v : Verdict). reported (verdict-report v) report) is),
+  admitted : (n : ℕ) → (v ≡ Admitted n) ↔ ((number ≡ 0) × (report′ ≡ n))
+  admitted n = (
+    λ is. (number-of is, report-of is),
+    λ (none, value). let (k, is) = admitted-of v (same ∙ none) in is ∙ ap Admitted (sym (report-of is) ∙ value),
   )
 
-  by-number : MeansByNumber words image log sheet work addr bytes number work′ report′
-  by-number =
-      record {
-        admits = (λ none. means .admits .0 (report′, admitted none), λ all. let (n, is) = means .admits .1 all in number-of (Admitted n) is);
-        by-part-writes = (λ none. means .by-part-writes .0 (report′, admitted none), λ all. let (n, is) = means .by-part-writes .1 all in number-of (Admitted n) is);
-        denies = (λ eight. means .denies .0 (report′, denied eight), λ some. let (m, is) = means .denies .1 some in number-of (Denied m) is);
-        names-the-first = first;
-        admitted-leaves = λ none. means .admitted-leaves report′ (admitted none);
-        denied-leaves = λ eight. means .denied-leaves report′ (denied eight);
-      }
+  denied : (m : ℕ) → (v ≡ Denied m) ↔ ((number ≡ denied-number) × (report′ ≡ m))
+  denied m = (
+    λ is. (number-of is, report-of is),
+    λ (eight, value). let (k, is) = denied-of v (same ∙ eight) in is ∙ ap Denied (sym (report-of is) ∙ value),
+  )
 
-module _ (words : List ℕ) (sized : length words ≡ state-words) where
-  pub linked-judge-means : {image log sheet work : List ℕ} {addr : ℕ} {bytes : List ℕ} {report number : ℕ} {work′ : List ℕ} {report′ : ℕ}
-      → SkaldriftJudge words image log sheet work addr bytes report number work′ report′ → MeansByNumber words image log sheet work addr bytes number work′ report′
-  linked-judge-means {image} {log} {sheet} {work} {addr} {bytes} {report} p =
-      let (v, same, told, j) = linked-judge words sized p in
-      by-number words report v same told (judge-means image (state-of words) log sheet work addr bytes j)
+module _ {m : Lent} (sized : state-sized plainly m) {sheet work : List ℕ} {w : Write} {report number : ℕ} {work′ : List ℕ} {report′ : ℕ} where
+  pub linked-judge-means : SkaldriftJudge m sheet work w report number work′ report′ → MeansByNumber m sheet work w number work′ report′
+  linked-judge-means p =
+      let (v, same, told, j) = linked-judge sized p in
+      means-by-same (admitted v report same told) (denied v report same told) (judge-means j)
 
-  pub linked-gate-means : {image log sheet work : List ℕ} {addr : ℕ} {bytes : List ℕ} {report number : ℕ} {words′ log′ work′ : List ℕ} {report′ : ℕ}
-      → SkaldriftGate words image log sheet work addr bytes report number words′ log′ work′ report′ → MeansByNumber words image log sheet work addr bytes number work′ report′
-  linked-gate-means p = linked-judge-means (record { answers = p .answers; work-after = p .work-after; report-after = p .report-after })
+  pub linked-gate-means : {m′ : Lent} → SkaldriftGate m sheet work w report number m′ work′ report′ → MeansByNumber m sheet work w number work′ report′
+  linked-gate-means p = linked-judge-means (p .judges)
 
-  -- a good opening
-  pub linked-open-means : {image log sheet : List ℕ} {number : ℕ} {words′ : List ℕ} → SkaldriftOpen words image log sheet number words′ → (number ≡ 0) ↔ Openable image log sheet
-  linked-open-means {image} {log} {sheet} p =
-      let (a, same, o) = linked-open words sized p in
-      let means = opens-means image (state-of words) log sheet o in
-      (λ none. means .0 (done-of a (same ∙ none)), λ good. sym same ∙ ap answer-number (means .1 good))
+-- a good opening
+pub linked-open-means : {m : Lent} → state-sized plainly m → {sheet : List ℕ} {number : ℕ} {m′ : Lent} → SkaldriftOpen m sheet number m′
+    → (number ≡ 0) ↔ Openable (desk-of m) sheet
+linked-open-means sized p =
+    let (a, same, o) = linked-open sized p in
+    let means = opens-means o in
+    (λ none. means .0 (done-of a (same ∙ none)), λ good. sym same ∙ ap answer-number (means .1 good))

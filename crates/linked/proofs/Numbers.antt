@@ -5,23 +5,25 @@ use mathlib.Core.Bool.{Bool, true, false, _&&_}
 use mathlib.Core.List.{List}
 use lib.Dec.{leb, ltb, eqb}
 use lib.ListN.{length}
-use Rattle.region.specs.Limits.{image-limit, writes-limit, log-limit, points-limit, const-persistence-chunk-size}
+use Rattle.region.specs.Limits.{image-limit, writes-limit, log-limit, points-limit}
 use Rattle.region.specs.Answer.{refusal-number, answer-number, unless, if-done}
 use Rattle.region.specs.declared.Answer.{Answer}
 use Rattle.region.specs.declared.Answer.the-variants as answer
 use Rattle.region.specs.declared.Refusal.{Refusal}
 use Rattle.region.specs.declared.Refusal.the-variants.{BadState, OutOfRange, TooManyWrites, TooManyBytes, BadSheet, BrokenImage, TooManyPoints, BadRows, BadTape, NotPredicted, TooManyRounds}
 use Rattle.region.proofs.AnswerLaws.{not-done, refusal-not-done}
-use Rattle.pieces.specs.AsyncSpec.{size-to-chunks}
+use Rattle.pieces.specs.AsyncSpec.{Write}
 use Rattle.pieces.specs.Rows.{rows-right, rows-filled}
 use Rattle.cuts.specs.Search as search
-use Rattle.sheet.specs.Sheet.{well-formed, obeys}
-use Rattle.records.specs.State.{log-records, together, view, sound}
+use Rattle.sheet.specs.Sheet.{well-formed, allows}
+use Rattle.records.specs.State.{log-records, together, record-of, room-number}
+use Rattle.records.specs.Desk.{Desk, chunks, sound}
+use Rattle.records.specs.declared.state.Record.{Record}
 use Rattle.records.specs.declared.state.State.{State}
-use Rattle.writelog.specs.Write.{room-number, write-number}
-use Rattle.writelog.specs.Read.{asked-number}
+use Rattle.writelog.specs.Write.{write-number}
+use Rattle.writelog.specs.Read.{asked-number, read-number}
 use Rattle.writelog.specs.Flush.{flush-number}
-use Rattle.writelog.specs.Cut.{cut-report, cut-told, chunks, cut-number}
+use Rattle.writelog.specs.Cut.{cut-report, cut-told, cut-number}
 use Rattle.writelog.specs.declared.cut.CutAnswer.{CutAnswer}
 use Rattle.writelog.specs.declared.cut.CutAnswer.the-variants as cut-answer
 use Rattle.writelog.proofs.CutLaws.{kept-told, refused-told}
@@ -31,11 +33,12 @@ use Rattle.gate.specs.Judgement.{verdict-report, Judgement, refused, tried, gat
 use Rattle.gate.specs.declared.Verdict.{Verdict}
 use Rattle.gate.specs.declared.Verdict.the-variants as verdict
 use Rattle.epochs.specs.Epoch.{epoch-there, epoch-number}
-use Rattle.tape.specs.Write.{or-else, tape-sound, tape-room-number, tape-write-number}
-use Rattle.tape.specs.Ending.{as-foretold, ending-number}
+use Rattle.tape.specs.Memory.{TapeDesk, or-else, tape-sound-for}
+use Rattle.tape.specs.Write.{tape-room-number, tape-write-number}
+use Rattle.tape.specs.Ending.{as-foretold, ending-number, tape-ending-number}
 use Rattle.example.specs.Setup.{setup-number}
-use Rattle.example.specs.Valid.{valid}
-use Rattle.example.specs.Run.{rounds-limit, run-answer-number, run-number}
+use Rattle.example.specs.Valid.{app-valid}
+use Rattle.example.specs.Run.{rounds-limit, run-answer-number, fits-number, run-number}
 use Rattle.example.specs.declared.RunAnswer.{RunAnswer}
 use Rattle.example.specs.declared.RunAnswer.the-variants as run-answer
 
@@ -55,39 +58,39 @@ or-after (suc n) rest a b = a
 all-done : Answers 0
 all-done = (answer.Done, refl)
 
-pub open-answers : (image log sheet : List ℕ) → Answers (open-number image log sheet)
-unfolding open-number
-open-answers image log sheet =
-    tested (leb (length image) image-limit && eqb (length log) log-limit) BadState _
-    (tested (well-formed sheet) BadSheet _
-    (tested (obeys sheet image image) BrokenImage 0 all-done))
-
-room-answers : (L : ℕ) (st : State) (addr n : ℕ) → Answers (room-number L st addr n)
-room-answers L st addr n =
-    tested (leb (addr + n) L) OutOfRange _
+room-answers : (L : ℕ) (st : State) (r : Record) → Answers (room-number L st r)
+room-answers L st r =
+    tested (leb (r .addr + r .len) L) OutOfRange _
     (tested (ltb (st .count) writes-limit) TooManyWrites _
-    (tested (leb (together (log-records st) + n) log-limit) TooManyBytes 0 all-done))
+    (tested (leb (together (log-records st) + r .len) log-limit) TooManyBytes 0 all-done))
 
-module _ (image : List ℕ) (st : State) (log : List ℕ) where
-  pub write-answers : (addr n : ℕ) → Answers (write-number image st log addr n)
+module _ (d : Desk) where
+  pub open-answers : (sheet : List ℕ) → Answers (open-number d sheet)
+  unfolding open-number
+  open-answers sheet =
+      tested (leb (length (d .image)) image-limit && eqb (length (d .log)) log-limit) BadState _
+      (tested (well-formed sheet) BadSheet _
+      (tested (allows sheet (d .image)) BrokenImage 0 all-done))
+
+  pub write-answers : (w : Write) → Answers (write-number d w)
   unfolding write-number
-  write-answers addr n = tested (sound (length image) st (length log)) BadState _ (room-answers (length image) st addr n)
+  write-answers w = tested (sound d) BadState _ (room-answers (length (d .image)) (d .state) (record-of w))
 
-  pub read-answers : (work : List ℕ) (addr len : ℕ) → Answers (asked-number (length image) st (length log) (length work) addr len)
+  pub read-answers : (work : List ℕ) (addr len : ℕ) → Answers (read-number d work addr len)
   unfolding asked-number
   read-answers work addr len =
-      tested (sound (length image) st (length log) && eqb (length work) (length image)) BadState _
-      (tested (leb (addr + len) (length image)) OutOfRange 0 all-done)
+      tested (sound d && eqb (length work) (length (d .image))) BadState _
+      (tested (leb (addr + len) (length (d .image))) OutOfRange 0 all-done)
 
-  pub flush-answers : Answers (flush-number image st log)
+  pub flush-answers : Answers (flush-number d)
   unfolding flush-number
-  flush-answers = tested (sound (length image) st (length log)) BadState 0 all-done
+  flush-answers = tested (sound d) BadState 0 all-done
 
-  pub cut-answers : (rows : List ℕ) → Answers (cut-number image st log rows)
+  pub cut-answers : (rows : List ℕ) → Answers (cut-number d rows)
   unfolding cut-number
   cut-answers rows =
-      tested (sound (length image) st (length log)) BadState _
-      (tested (rows-right (chunks image) (st .count) rows) BadRows 0 all-done)
+      tested (sound d) BadState _
+      (tested (rows-right (chunks d) (d .state .count) rows) BadRows 0 all-done)
 
 epoch-answers : (K n : ℕ) (tape : List ℕ) (start : ℕ) → Answers (epoch-number K n tape start)
 unfolding epoch-number
@@ -95,23 +98,23 @@ epoch-answers K n tape start =
     tested (epoch-there K n tape start) BadTape _
     (tested (rows-filled K n tape (start + 1)) BadRows 0 all-done)
 
-pub tape-write-answers : (image : List ℕ) (st : State) (log tape : List ℕ) (start : ℕ) (predicted : List ℕ) (addr n : ℕ)
-    → Answers (tape-write-number image st log tape start predicted addr n)
-unfolding tape-write-number tape-room-number
-tape-write-answers image st log tape start predicted addr n =
-    tested (tape-sound (length image) st (length log) (length predicted)) BadState _
-    (or-after (room-number (length image) st addr n) (epoch-number (size-to-chunks const-persistence-chunk-size (length image)) (st .count + 1) tape start)
-    (room-answers (length image) st addr n)
-    (epoch-answers (size-to-chunks const-persistence-chunk-size (length image)) (st .count + 1) tape start))
+module _ (t : TapeDesk) (tape : List ℕ) where
+  abbrev good : Bool
+  good = tape-sound-for (length (t .memory .image)) (t .memory .state) (length (t .memory .log)) (length (t .predicted))
 
-pub ending-answers : (flushing : Bool) (L : ℕ) (st : State) (log-length : ℕ) (tape : List ℕ) (start predicted-length : ℕ)
-    → Answers (ending-number flushing L st log-length tape start predicted-length)
-unfolding ending-number
-ending-answers flushing L st log-length tape start predicted-length =
-    tested (tape-sound L st log-length predicted-length) BadState _
-    (or-after (epoch-number (size-to-chunks const-persistence-chunk-size L) (st .count) tape start) _
-    (epoch-answers (size-to-chunks const-persistence-chunk-size L) (st .count) tape start)
-    (tested (as-foretold flushing tape start) NotPredicted 0 all-done))
+  pub tape-write-answers : (w : Write) → Answers (tape-write-number t tape w)
+  unfolding tape-write-number tape-room-number
+  tape-write-answers w =
+      tested good BadState _
+      (or-after _ _ (room-answers (length (t .memory .image)) (t .memory .state) (record-of w))
+      (epoch-answers (chunks (t .memory)) (t .memory .state .count + 1) tape (t .start)))
+
+  pub ending-answers : (flushing : Bool) → Answers (tape-ending-number flushing t tape)
+  unfolding ending-number
+  ending-answers flushing =
+      tested good BadState _
+      (or-after _ _ (epoch-answers (chunks (t .memory)) (t .memory .state .count) tape (t .start))
+      (tested (as-foretold flushing tape (t .start)) NotPredicted 0 all-done))
 
 pub setup-answers : (image : List ℕ) (addr : ℕ) → Answers (setup-number image addr)
 unfolding setup-number
@@ -123,10 +126,11 @@ pub run-answers : (image log work : List ℕ) (addr val0 val1 rounds : ℕ) → 
 unfolding run-number
 run-answers image log work addr val0 val1 rounds =
     of-run _
+    (or-after _ _
     (tested (leb (length image) image-limit && eqb (length log) log-limit && eqb (length work) (length image)) BadState _
     (tested (leb (addr + 1) (length image)) OutOfRange _
-    (tested (leb rounds rounds-limit) TooManyRounds _
-    (tested (valid addr val0 val1 image) BrokenImage 0 all-done))))
+    (tested (leb rounds rounds-limit) TooManyRounds 0 all-done)))
+    (tested (app-valid addr val0 val1 image) BrokenImage 0 all-done))
   where
     of-run : (n : ℕ) → Answers n → (a : RunAnswer) × (run-answer-number a ≡ n)
     of-run n (answer.Done, e) = (run-answer.Done, e)
@@ -155,13 +159,12 @@ searched : (n : ℕ) (r : search.Finding) → Speaks n (tried r)
 searched n search.none-bad = (verdict.Admitted n, refl)
 searched n (search.first-bad m) = (verdict.Denied m, refl)
 
-pub judge-speaks : (image : List ℕ) (st : State) (log sheet work : List ℕ) (addr : ℕ) (bytes : List ℕ)
-    → (v : Verdict) × (verdict-report v ≡ judge-report image st log sheet work addr bytes)
+pub judge-speaks : (d : Desk) (sheet work : List ℕ) (w : Write) → (v : Verdict) × (verdict-report v ≡ judge-report d sheet work w)
 unfolding judgement
-judge-speaks image st log sheet work addr bytes =
-    let n = gate-points image st log addr bytes in
-    judged n (sound (length image) st (length log) && eqb (length work) (length image)) BadState _
+judge-speaks d sheet work w =
+    let n = gate-points d w in
+    judged n (sound d && eqb (length work) (length (d .image))) BadState _
     (judged n (well-formed sheet) BadSheet _
-    (roomy n (room-number (length image) st addr (length bytes)) (weighed image st log sheet addr bytes) (room-answers (length image) st addr (length bytes))
+    (roomy n _ (weighed d sheet w) (room-answers (length (d .image)) (d .state) (record-of w))
     (judged n (leb n points-limit) TooManyPoints _
-    (searched n (sheet-finding sheet (view image st log) addr bytes)))))
+    (searched n (sheet-finding d w sheet)))))

@@ -1,5 +1,4 @@
--- A run of linked calls is a run of the library's: each call is a step from the state that the words say to the one that they say afterwards, and leaves 65 words. So
--- the session theorem holds of it. Assumes nothing.
+-- A run of linked calls is a run of the library's, so demand 3 holds of it. Assumes nothing.
 use Prim.Native.Nat.{ℕ, suc}
 use native.Mathlib.Nat.{suc-ne-zero}
 use native.Mathlib.Omega.{arith}
@@ -12,25 +11,28 @@ use Rattle.region.specs.declared.Answer.{Answer}
 use Rattle.region.specs.declared.Answer.the-variants as answer
 use Rattle.region.specs.declared.Refusal.{Refusal}
 use Rattle.region.proofs.AnswerLaws.{answers-by-number, refusal-not-done, done-changed, refused-left}
+use Rattle.pieces.specs.AsyncSpec.{Write}
 use Rattle.cuts.specs.Packed.{are-bytes}
+use Rattle.records.specs.Desk.{Desk, settled-desk}
 use Rattle.writelog.specs.Cut.{cut-report}
 use Rattle.writelog.specs.declared.cut.CutAnswer.{CutAnswer}
 use Rattle.writelog.specs.declared.cut.CutAnswer.the-variants as cut-answer
 use Rattle.gate.specs.Opening.{open-number, Opens}
 use Rattle.gate.specs.Judgement.{verdict-report, Judges}
+use Rattle.gate.specs.Meaning.{could-be-left}
 use Rattle.gate.specs.declared.Verdict.{Verdict}
 use Rattle.gate.specs.declared.Verdict.the-variants as verdict
-use Rattle.session.specs.History.{Event, cut-by, reopened, History, opening, _then_, if-answered, if-admitted, if-cut}
-use Rattle.session.specs.Run.{Desk, Step, Run, throughout}
-use Rattle.session.specs.Run as run
-use Rattle.session.specs.Theorem.{could-be-left, Session}
-use Rattle.session.proofs.Theorem.{power-loss-cuts, session, session-throughout}
-use Rattle.boundary.specs.Words.{state-words, state-of}
+use Rattle.boundary.specs.Lent.{Lent, desk-of, lent-of, plainly}
 use Rattle.boundary.specs.Gate.{SkaldriftOpen, SkaldriftJudge}
-use Rattle.boundary.proofs.LogLaws.{cut-right}
-use Rattle.linked.proofs.Promises.{done-sized, sized-after-open, sized-after-write, sized-after-gate, sized-after-flush, sized-after-cut, linked-open, linked-write, linked-read, linked-flush, linked-cut, linked-judge, linked-gate}
-use Rattle.linked.proofs.TapePromises.{sized-after-tape-write, sized-after-tape-flush, sized-after-tape-cut, linked-tape-write, linked-tape-flush, linked-tape-cut}
-use Rattle.linked.specs.Calls.{Lent, lent, desk-of, if-0, Call, gate, judge, judged-write, judged-tape-write, refused-write, refused-tape-write, flush, tape-flush, cut, tape-cut, reopen, restart, read, Calls, opened, _and_}
+use Rattle.boundary.proofs.CallLaws.{state-sized, sized-if-done}
+use Rattle.boundary.proofs.FunctionLaws.{cut-right}
+use Rattle.session.specs.History.{Event, cut-by, reopened, History, opening, _then_, if-answered, if-admitted, if-cut}
+use Rattle.session.specs.Run.{Step, Run, throughout}
+use Rattle.session.specs.Run as run
+use Rattle.session.specs.Theorem.{Session}
+use Rattle.session.proofs.Theorem.{power-loss-cuts, session, session-throughout}
+use Rattle.linked.proofs.Promises.{linked-open, sized-after-open, linked-write, sized-after-write, linked-read, linked-flush, sized-after-flush, linked-cut, sized-after-cut, linked-judge, linked-gate, sized-after-gate, linked-tape-write, sized-after-tape-write, linked-tape-flush, sized-after-tape-flush, linked-tape-cut, sized-after-tape-cut}
+use Rattle.linked.specs.Calls.{if-0, Call, gate, judge, judged-write, judged-tape-write, refused-write, refused-tape-write, flush, tape-flush, cut, tape-cut, reopen, restart, read, Calls, opened, _and_}
 
 -- the event goes by the number
 pub answer-event : (a : Answer) (e : Event) {n : ℕ} → answer-number a ≡ n → if-answered a e ≡ if-0 n e
@@ -63,102 +65,102 @@ refused-of : (a : Answer) {why : ℕ} → answer-number a ≡ suc why → (r : R
 refused-of answer.Done {why} same = absurd (suc-ne-zero why (sym same))
 refused-of (answer.Refused r) same = (r, refl)
 
--- a good opening is the library's, and leaves 65 words
-pub opens : {image words log sheet words′ : List ℕ} → SkaldriftOpen words image log sheet 0 words′
-    → (length words′ ≡ state-words) × Opens image (state-of words) log sheet answer.Done (state-of words′)
-opens {image} {words} {log} {sheet} p =
-    let sized = done-sized words (λ st. open-number image log sheet) (sym (p .answers)) in
-    let (a, same, o) = linked-open words sized p in
-    (sized-after-open words sized p, rw (done-of a same) at o)
+-- a good opening is the library's, and leaves words that say a state
+pub opens : {m : Lent} {sheet : List ℕ} {m′ : Lent} → SkaldriftOpen m sheet 0 m′ → state-sized plainly m′ × Opens (desk-of m) sheet answer.Done (desk-of m′)
+opens {m} {sheet} p =
+    let sized = sized-if-done plainly m (λ d. open-number d sheet) (sym (p .answers)) in
+    let (a, same, o) = linked-open sized p in
+    (sized-after-open sized p, rw (done-of a same) at o)
 
 -- a verdict of number 0 is the library's
-pub admits : {image words log sheet work bytes work′ : List ℕ} {addr report report′ : ℕ} → length words ≡ state-words → SkaldriftJudge words image log sheet work addr bytes report 0 work′ report′
-    → (n : ℕ) × Judges image (state-of words) log sheet work addr bytes (verdict.Admitted n) work′
-admits {words = words} sized p =
-    let (v, same, told, j) = linked-judge words sized p in
+pub admits : {m : Lent} {sheet work : List ℕ} {w : Write} {report : ℕ} {work′ : List ℕ} {report′ : ℕ} → state-sized plainly m
+    → SkaldriftJudge m sheet work w report 0 work′ report′ → (n : ℕ) × Judges (desk-of m) sheet work w (verdict.Admitted n) work′
+admits sized p =
+    let (v, same, told, j) = linked-judge sized p in
     let (n, is) = admitted-of v same in
     (n, rw is at j)
 
 -- after a session the next skaldrift_open, handed 65 words and a log buffer of its size, answers 0 over any image that a cut could leave
-pub opening-answers-0 : {sheet image : List ℕ} {h : History} {d : Desk} → Session sheet image h d → (x : List ℕ) → could-be-left d x
-    → {words log words′ : List ℕ} {number : ℕ} → length words ≡ state-words → length log ≡ log-limit → SkaldriftOpen words x log sheet number words′ → number ≡ 0
-opening-answers-0 s x left {words} sized buffer p =
-    let (a, same, o) = linked-open words sized p in
-    sym same ∙ ap answer-number (s .next-opening-done x left buffer o)
+pub opening-answers-0 : {sheet image : List ℕ} {h : History} {d : Desk} → Session sheet image h d → (found : Lent) → could-be-left d (found .image)
+    → state-sized plainly found → length (found .log) ≡ log-limit → {number : ℕ} {m′ : Lent} → SkaldriftOpen found sheet number m′ → number ≡ 0
+opening-answers-0 s found left sized buffer p =
+    let (a, same, o) = linked-open sized p in
+    sym same ∙ ap answer-number (s .next-opening-done (desk-of found) left buffer o)
 
 module _ (sheet : List ℕ) where
   renamed : {d d′ : Desk} {e e′ : Event} → e ≡ e′ → Step sheet d e d′ → Step sheet d e′ d′
   renamed {d} {d′} same s = subst (λ (e : Event). Step sheet d e d′) same s
 
-  -- each call leaves 65 words again, and is a step of the library
-  pub call-is-a-step : {m : Lent} {e : Event} {m′ : Lent} → length (m .words) ≡ state-words → Call sheet m e m′ → (length (m′ .words) ≡ state-words) × Step sheet (desk-of m) e (desk-of m′)
-  call-is-a-step sized (gate {words = words} p) = let (v, same, told, g) = linked-gate words sized p in (sized-after-gate words sized p, renamed (verdict-event v _ same) (run.gate g))
-  call-is-a-step sized (judge {words = words} p) = let (v, same, told, j) = linked-judge words sized p in (sized, run.judge j)
-  call-is-a-step sized (judged-write {words = words} j p) =
-      let (a, same, w) = linked-write words sized p in
-      (sized-after-write words sized p, renamed (answer-event a _ same) (run.judged-write (admits sized j .1) w))
-  call-is-a-step sized (judged-tape-write {words = words} j p) =
-      let (a, same, w) = linked-tape-write words sized p in
-      (sized-after-tape-write words sized p, renamed (answer-event a _ same) (run.judged-tape-write (admits sized j .1) w))
-  call-is-a-step sized (refused-write {words = words} p) =
-      let (a, same, w) = linked-write words sized p in
+  -- each call leaves words that say a state again, and is a step of the library
+  pub call-is-a-step : {m : Lent} {e : Event} {m′ : Lent} → state-sized plainly m → Call sheet m e m′ → state-sized plainly m′ × Step sheet (desk-of m) e (desk-of m′)
+  call-is-a-step sized (gate p) = let (v, same, told, g) = linked-gate sized p in (sized-after-gate sized p, renamed (verdict-event v _ same) (run.gate g))
+  call-is-a-step sized (judge p) = let (v, same, told, j) = linked-judge sized p in (sized, run.judge j)
+  call-is-a-step sized (judged-write j p) =
+      let (a, same, w) = linked-write sized p in
+      (sized-after-write sized p, renamed (answer-event a _ same) (run.judged-write (admits sized j .1) w))
+  call-is-a-step sized (judged-tape-write j p) =
+      let (a, same, w) = linked-tape-write sized p in
+      (sized-after-tape-write sized p, renamed (answer-event a _ same) (run.judged-tape-write (admits sized j .1) w))
+  call-is-a-step sized (refused-write p) =
+      let (a, same, w) = linked-write sized p in
       let (r, is) = refused-of a same in
-      (sized-after-write words sized p, run.refused-write (rw is at w))
-  call-is-a-step sized (refused-tape-write {words = words} p) =
-      let (a, same, w) = linked-tape-write words sized p in
+      (sized-after-write sized p, run.refused-write (rw is at w))
+  call-is-a-step sized (refused-tape-write p) =
+      let (a, same, w) = linked-tape-write sized p in
       let (r, is) = refused-of a same in
-      (sized-after-tape-write words sized p, run.refused-tape-write (rw is at w))
-  call-is-a-step sized (flush {words = words} p) = let (a, same, f) = linked-flush words sized p in (sized-after-flush words sized p, renamed (answer-event a _ same) (run.flush f))
-  call-is-a-step sized (tape-flush {words = words} p) =
-      let (a, same, f) = linked-tape-flush words sized p in
-      (sized-after-tape-flush words sized p, renamed (answer-event a _ same) (run.tape-flush f))
-  call-is-a-step sized (cut {words = words} p) = let (a, same, told, c) = linked-cut words sized p in (sized-after-cut words sized p, renamed (cut-event a _ same) (run.cut c))
-  call-is-a-step sized (tape-cut {words = words} p) =
-      let (a, same, told, c) = linked-tape-cut words sized p in
-      (sized-after-tape-cut words sized p, renamed (cut-event a _ same) (run.tape-cut c))
-  call-is-a-step sized (reopen {words = words} p) = let (a, same, o) = linked-open words sized p in (sized-after-open words sized p, renamed (answer-event a _ same) (run.reopen o))
-  call-is-a-step sized (restart p) = let (again, o) = opens p in (again, run.restart o)
-  call-is-a-step sized (read {words = words} p) = let (a, same, f) = linked-read words sized p in (sized, run.fill f)
+      (sized-after-tape-write sized p, run.refused-tape-write (rw is at w))
+  call-is-a-step sized (flush p) = let (a, same, f) = linked-flush sized p in (sized-after-flush sized p, renamed (answer-event a _ same) (run.flush f))
+  call-is-a-step sized (tape-flush p) =
+      let (a, same, f) = linked-tape-flush sized p in
+      (sized-after-tape-flush sized p, renamed (answer-event a _ same) (run.tape-flush f))
+  call-is-a-step sized (cut p) = let (a, same, told, c) = linked-cut sized p in (sized-after-cut sized p, renamed (cut-event a _ same) (run.cut c))
+  call-is-a-step sized (tape-cut p) =
+      let (a, same, told, c) = linked-tape-cut sized p in
+      (sized-after-tape-cut sized p, renamed (cut-event a _ same) (run.tape-cut c))
+  call-is-a-step sized (reopen p) = let (a, same, o) = linked-open sized p in (sized-after-open sized p, renamed (answer-event a _ same) (run.reopen o))
+  call-is-a-step sized (restart image p) = let (again, o) = opens p in (again, run.restart image o)
+  call-is-a-step sized (read p) = let (a, same, f) = linked-read sized p in (sized, run.fill f)
 
   module _ (image : List ℕ) where
-    linked-both : {h : History} {m : Lent} → Calls sheet image h m → (length (m .words) ≡ state-words) × Run sheet image h (desk-of m)
-    linked-both (opened p) = let (sized, o) = opens p in (sized, run.opened o)
+    linked-both : {h : History} {m : Lent} → Calls sheet image h m → state-sized plainly m × Run sheet image h (desk-of m)
+    linked-both (opened same p) = let (sized, o) = opens p in (sized, run.opened same o)
     linked-both (calls and c) =
         let (sized, r) = linked-both calls in
         let (again, s) = call-is-a-step sized c in
         (again, run._and_ r s)
 
-    -- The desk's words stay 65, and the calls are a run of the library's
-    pub linked-words : {h : History} {m : Lent} → Calls sheet image h m → length (m .words) ≡ state-words
+    -- the desk's words stay 65, and the calls are a run of the library's
+    pub linked-words : {h : History} {m : Lent} → Calls sheet image h m → state-sized plainly m
     linked-words calls = linked-both calls .0
 
-    pub linked-run : {h : History} {m : Lent} → Calls sheet image h m → Run sheet image h (desk-of m)
-    linked-run calls = linked-both calls .1
+    pub calls-are-a-run : {h : History} {m : Lent} → Calls sheet image h m → Run sheet image h (desk-of m)
+    calls-are-a-run calls = linked-both calls .1
 
     -- so demand 3 holds of them
     pub linked-session : {h : History} {m : Lent} → Calls sheet image h m → Session sheet image h (desk-of m)
-    linked-session calls = session sheet image (linked-run calls)
+    linked-session calls = session sheet image (calls-are-a-run calls)
 
     -- at every prefix too
-    pub linked-session-throughout : {h : History} {m : Lent} (calls : Calls sheet image h m) → throughout sheet (Session sheet image) (linked-run calls)
-    linked-session-throughout calls = session-throughout sheet image (linked-run calls)
+    pub linked-session-throughout : {h : History} {m : Lent} (calls : Calls sheet image h m) → throughout sheet (Session sheet image) (calls-are-a-run calls)
+    linked-session-throughout calls = session-throughout sheet image (calls-are-a-run calls)
 
-    module _ {h : History} {m : Lent} (calls : Calls sheet image h m) (x : List ℕ) (left : could-be-left (desk-of m) x) {words log words′ : List ℕ} {number : ℕ}
-        (sized : length words ≡ state-words) (buffer : length log ≡ log-limit) (p : SkaldriftOpen words x log sheet number words′) where
+    module _ {h : History} {m : Lent} (calls : Calls sheet image h m) (found : Lent) (left : could-be-left (desk-of m) (found .image))
+        (sized : state-sized plainly found) (buffer : length (found .log) ≡ log-limit) {number : ℕ} {m′ : Lent} (p : SkaldriftOpen found sheet number m′) where
       -- the next opening is answered 0, over any image that a cut could leave,
       pub linked-next-opening : number ≡ 0
-      linked-next-opening = opening-answers-0 (linked-session calls) x left sized buffer p
+      linked-next-opening = opening-answers-0 (linked-session calls) found left sized buffer p
 
-      reopens : SkaldriftOpen words x log sheet 0 words′
-      reopens = subst (λ (n : ℕ). SkaldriftOpen words x log sheet n words′) linked-next-opening p
+      reopens : SkaldriftOpen found sheet 0 m′
+      reopens = subst (λ (n : ℕ). SkaldriftOpen found sheet n m′) linked-next-opening p
 
       -- and goes on with the history: a cut by some table, and a reopening over other memory.
-      pub linked-power-loss-goes-on : (table : List ℕ) × are-bytes table × Calls sheet image (h then cut-by table 0 then reopened) (lent x words′ log)
+      pub linked-power-loss-goes-on : (table : List ℕ) × are-bytes table × Calls sheet image (h then cut-by table 0 then reopened) m′
       linked-power-loss-goes-on =
-          let lost = power-loss-cuts sheet image (linked-run calls) x left in
-          let loses = cut (cut-right (m .words) (m .image) (m .log) (lost .0) 0 (linked-words calls) refl (lost .2) refl refl refl) in
-          (lost .0, lost .1, calls and loses and restart reopens)
+          let lost = power-loss-cuts sheet image (calls-are-a-run calls) (found .image) left in
+          let loses : Call sheet m (cut-by (lost .0) 0) (lent-of (settled-desk (desk-of m) (found .image))) =
+          cut {report = 0} (cut-right (linked-words calls) refl refl refl refl (lost .2)) in
+          (lost .0, lost .1, calls and loses and restart refl reopens)
 
       -- It begins a run of its own too: what the original assumes as `held_before_crash`.
-      pub linked-held-before-crash : Calls sheet x opening (lent x words′ log)
-      linked-held-before-crash = opened reopens
+      pub linked-held-before-crash : Calls sheet (found .image) opening m′
+      linked-held-before-crash = opened refl reopens
