@@ -38,7 +38,7 @@ use Rattle.tape.specs.Memory.{TapeDesk, by-tape}
 use Rattle.tape.specs.Write.{TapeWrites}
 use Rattle.tape.specs.Flush.{TapeFlushes}
 use Rattle.tape.specs.Cut.{TapeCuts}
-use Rattle.tape.proofs.NumberLaws.{Ending, ending-done}
+use Rattle.tape.proofs.NumberLaws.{ending-done}
 use Rattle.session.specs.History.{Event, nothing, written, flushed, cut-by, reopened, if-answered, if-admitted, if-cut, rows-there, none-kept, happen, settled}
 use Rattle.session.specs.Run as run
 use Rattle.session.specs.Run.{Step}
@@ -143,7 +143,7 @@ module _ {sheet : List ℕ} {d : Desk} (h : Holds d sheet) where
         → TapeCuts (by-tape d start predicted) tape a (by-tape d′ start′ predicted′) → Keeps sheet d (if-cut a (cut-by tape (start + 1))) d′
     tape-cut-keeps {tape} (cut-answer.Kept k) p =
         let none = numbered (p .answers) in
-        let ending : Ending false (by-tape d start predicted) tape = ending-done none in
+        let ending = ending-done false (by-tape d start predicted) tape none in
         cuts tape (start + 1)
         (memory-of (changed _ (p .leaves) none) ∙ ap (settled-desk d) (predicted-cut (chunk-size d) tape start (view d) (ending .foretold)))
     tape-cut-keeps (cut-answer.Refused why) p = unmoved h (memory-of (left _ (p .leaves) (refusal-not-done why) (numbered (p .answers))))
