@@ -127,13 +127,13 @@ module _ {m : Lent} (sized : length (m .words) ≡ state-words) {st : State} (lo
   module _ {m′ : Lent} {st′ : State} (stored : m′ .words ≡ words-of st′) {number : ℕ} where
     module _ {answer : Answer} (told : number ≡ answer-number answer) where
       pub write-right : {w : Write} → Writes (desk-with m st) w answer (desk-with m′ st′) → SkaldriftWrite m w number m′
-      write-right call = right plain-laws sized (ap (desk-with m) loaded) (told ∙ call .answers) (call .leaves) (ap (lent-with m′) stored)
+      write-right call = record { does = right plain-laws sized (ap (desk-with m) loaded) (told ∙ call .answers) (call .leaves) (ap (lent-with m′) stored) }
 
       pub flush-right : Flushes (desk-with m st) answer (desk-with m′ st′) → SkaldriftFlush m number m′
-      flush-right call = right plain-laws sized (ap (desk-with m) loaded) (told ∙ call .answers) (call .leaves) (ap (lent-with m′) stored)
+      flush-right call = record { does = right plain-laws sized (ap (desk-with m) loaded) (told ∙ call .answers) (call .leaves) (ap (lent-with m′) stored) }
 
       pub open-right : {sheet : List ℕ} → Opens (desk-with m st) sheet answer (desk-with m′ st′) → SkaldriftOpen m sheet number m′
-      open-right call = right plain-laws sized (ap (desk-with m) loaded) (told ∙ call .answers) (call .leaves) (ap (lent-with m′) stored)
+      open-right call = record { does = right plain-laws sized (ap (desk-with m) loaded) (told ∙ call .answers) (call .leaves) (ap (lent-with m′) stored) }
 
     pub cut-right : {rows : List ℕ} {answer : CutAnswer} {held report : ℕ} → number ≡ cut-report answer .number → report ≡ reported (cut-report answer) held
         → Cuts (desk-with m st) rows answer (desk-with m′ st′) → SkaldriftCut m rows held number m′ report
@@ -149,10 +149,10 @@ module _ {t t′ : TapeLent} {tape : List ℕ} {number : ℕ} (sized : length (t
     {st st′ : State} (loaded : st ≡ state-of (t .memory .words)) (stored : t′ .memory .words ≡ words-of st′) where
   module _ {answer : Answer} (told : number ≡ answer-number answer) where
     pub tape-write-right : {w : Write} → TapeWrites (tape-desk-with t st) tape w answer (tape-desk-with t′ st′) → SkaldriftTapeWrite t tape w number t′
-    tape-write-right call = right tape-laws sized (ap (tape-desk-with t) loaded) (told ∙ call .answers) (call .leaves) (ap (tape-lent-with t′) stored)
+    tape-write-right call = record { does = right tape-laws sized (ap (tape-desk-with t) loaded) (told ∙ call .answers) (call .leaves) (ap (tape-lent-with t′) stored) }
 
     pub tape-flush-right : TapeFlushes (tape-desk-with t st) tape answer (tape-desk-with t′ st′) → SkaldriftTapeFlush t tape number t′
-    tape-flush-right call = right tape-laws sized (ap (tape-desk-with t) loaded) (told ∙ call .answers) (call .leaves) (ap (tape-lent-with t′) stored)
+    tape-flush-right call = record { does = right tape-laws sized (ap (tape-desk-with t) loaded) (told ∙ call .answers) (call .leaves) (ap (tape-lent-with t′) stored) }
 
   pub tape-cut-right : {answer : CutAnswer} {held report : ℕ} → number ≡ cut-report answer .number → report ≡ reported (cut-report answer) held
       → TapeCuts (tape-desk-with t st) tape answer (tape-desk-with t′ st′) → SkaldriftTapeCut t tape held number t′ report

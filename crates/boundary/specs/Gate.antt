@@ -10,8 +10,8 @@ use Rattle.gate.specs.Judgement.{judgement, judgement-work, judge-report, judge
 use Rattle.boundary.specs.Words.{reported}
 use Rattle.boundary.specs.Lent.{Lent, plainly, at-desk, Does}
 
-abbrev pub SkaldriftOpen : (m : Lent) (sheet : List ℕ) (number : ℕ) (m′ : Lent) → Type 0
-SkaldriftOpen m sheet number m′ = Does plainly (λ d. open-number d sheet) opened-desk m number m′
+pub record SkaldriftOpen (m : Lent) (sheet : List ℕ) (number : ℕ) (m′ : Lent) : Type 0 where
+  pub does : Does plainly (λ d. open-number d sheet) opened-desk m number m′
 
 module _ (m : Lent) (sheet work : List ℕ) (w : Write) (report : ℕ) where
   -- `report` gets n where the write is admitted and m where it is denied, and keeps what it held otherwise

@@ -12,8 +12,8 @@ use Rattle.writelog.specs.Flush.{flush-number}
 use Rattle.writelog.specs.Cut.{cut-number, image-by-rows, kept-by-rows}
 use Rattle.boundary.specs.Lent.{Lent, desk-of, plainly, at-desk, Does}
 
-abbrev pub SkaldriftWrite : (m : Lent) (w : Write) (number : ℕ) (m′ : Lent) → Type 0
-SkaldriftWrite m w number m′ = Does plainly (λ d. write-number d w) (λ d. with-write d w) m number m′
+pub record SkaldriftWrite (m : Lent) (w : Write) (number : ℕ) (m′ : Lent) : Type 0 where
+  pub does : Does plainly (λ d. write-number d w) (λ d. with-write d w) m number m′
 
 module _ (m : Lent) (work : List ℕ) (addr len : ℕ) where
   abbrev number-of-read : ℕ
@@ -23,8 +23,8 @@ module _ (m : Lent) (work : List ℕ) (addr len : ℕ) where
     pub answers : number ≡ number-of-read
     pub fills : work′ ≡ if-done number-of-read (readable (view (desk-of m))) work
 
-abbrev pub SkaldriftFlush : (m : Lent) (number : ℕ) (m′ : Lent) → Type 0
-SkaldriftFlush m number m′ = Does plainly flush-number (λ d. settled-desk d (readable (view d))) m number m′
+pub record SkaldriftFlush (m : Lent) (number : ℕ) (m′ : Lent) : Type 0 where
+  pub does : Does plainly flush-number (λ d. settled-desk d (readable (view d))) m number m′
 
 -- `report` gets the kept count of a done cut, and keeps what it held otherwise
 pub record SkaldriftCut (m : Lent) (rows : List ℕ) (report number : ℕ) (m′ : Lent) (report′ : ℕ) : Type 0 where

@@ -14,11 +14,11 @@ use Rattle.tape.specs.Flush.{tape-flush-number}
 use Rattle.tape.specs.Cut.{tape-cut-number}
 use Rattle.boundary.specs.Lent.{TapeLent, desk-of, on-tape, at-desk, Does}
 
-abbrev pub SkaldriftTapeWrite : (t : TapeLent) (tape : List ℕ) (w : Write) (number : ℕ) (t′ : TapeLent) → Type 0
-SkaldriftTapeWrite t tape w number t′ = Does on-tape (λ d. tape-write-number d tape w) (λ d. tape-written d tape w) t number t′
+pub record SkaldriftTapeWrite (t : TapeLent) (tape : List ℕ) (w : Write) (number : ℕ) (t′ : TapeLent) : Type 0 where
+  pub does : Does on-tape (λ d. tape-write-number d tape w) (λ d. tape-written d tape w) t number t′
 
-abbrev pub SkaldriftTapeFlush : (t : TapeLent) (tape : List ℕ) (number : ℕ) (t′ : TapeLent) → Type 0
-SkaldriftTapeFlush t tape number t′ = Does on-tape (λ d. tape-flush-number d tape) (λ d. epoch-ended d (readable (view (d .memory)))) t number t′
+pub record SkaldriftTapeFlush (t : TapeLent) (tape : List ℕ) (number : ℕ) (t′ : TapeLent) : Type 0 where
+  pub does : Does on-tape (λ d. tape-flush-number d tape) (λ d. epoch-ended d (readable (view (d .memory)))) t number t′
 
 -- `report` gets the kept count of a done cut, and keeps what it held otherwise
 pub record SkaldriftTapeCut (t : TapeLent) (tape : List ℕ) (report number : ℕ) (t′ : TapeLent) (report′ : ℕ) : Type 0 where

@@ -1,11 +1,10 @@
 -- What a function promises of words that say a state, the library's own call promises of the desk that they say: there is an answer with that number and
 -- report, the promise goes from the desk that is lent before to the one that is lent afterwards, and the words say a state again. Assumes nothing.
-use Prim.Native.Nat.{ℕ, zero, suc, _+_}
+use Prim.Native.Nat.{ℕ, _+_}
 use mathlib.Core.Path.{_≡_, refl, sym, ap, _∙_}
 use mathlib.Core.Bool.{true, false}
-use mathlib.Core.List.{List, [], _∷_}
-use lib.ListN.{getD}
-use Rattle.region.specs.Answer.{Report, answer-number, if-done}
+use mathlib.Core.List.{List}
+use Rattle.region.specs.Answer.{Report, answer-number}
 use Rattle.region.specs.declared.Answer.{Answer}
 use Rattle.pieces.specs.AsyncSpec.{Write, readable}
 use Rattle.records.specs.State.{record-of}
@@ -28,63 +27,56 @@ use Rattle.boundary.specs.Log.{SkaldriftWrite, SkaldriftRead, SkaldriftFlush, S
 use Rattle.boundary.specs.Gate.{SkaldriftOpen, SkaldriftJudge, SkaldriftGate}
 use Rattle.boundary.specs.Tape.{SkaldriftTapeWrite, SkaldriftTapeFlush, SkaldriftTapeCut}
 use Rattle.boundary.proofs.CallLaws.{state-sized, plain-laws, tape-laws, called-at, called-by, number-there, leaves-there, sized-after}
+use Rattle.boundary.proofs.FunctionLaws.{report-by}
 use Rattle.linked.proofs.Numbers.{open-answers, write-answers, read-answers, flush-answers, cut-answers, cut-answered, judge-speaks, tape-write-answers, ending-answers}
 
--- a kept count is reported by the number
-report-by : (n kept held : ℕ) → getD (if-done n (kept ∷ []) []) 0 held ≡ if-done n kept held
-report-by zero kept held = refl
-report-by (suc why) kept held = refl
-
 module _ {m : Lent} (sized : state-sized plainly m) where
-  abbrev d : Desk
-  d = desk-of m
-
   module _ {sheet : List ℕ} {number : ℕ} {m′ : Lent} (p : SkaldriftOpen m sheet number m′) where
-    pub linked-open : (a : Answer) × (answer-number a ≡ number) × Opens d sheet a (desk-of m′)
+    pub linked-open : (a : Answer) × (answer-number a ≡ number) × Opens (desk-of m) sheet a (desk-of m′)
     linked-open =
-        let (a, same) = open-answers d sheet in
-        (a, same ∙ sym (number-there plain-laws sized p), record { answers = same; leaves = leaves-there plain-laws sized p })
+        let (a, same) = open-answers (desk-of m) sheet in
+        (a, same ∙ sym (number-there plain-laws sized (p .does)), record { answers = same; leaves = leaves-there plain-laws sized (p .does) })
 
     pub sized-after-open : state-sized plainly m′
-    sized-after-open = sized-after plain-laws sized p (λ full. refl)
+    sized-after-open = sized-after plain-laws sized (p .does) (λ full. refl)
 
   module _ {w : Write} {number : ℕ} {m′ : Lent} (p : SkaldriftWrite m w number m′) where
-    pub linked-write : (a : Answer) × (answer-number a ≡ number) × Writes d w a (desk-of m′)
+    pub linked-write : (a : Answer) × (answer-number a ≡ number) × Writes (desk-of m) w a (desk-of m′)
     linked-write =
-        let (a, same) = write-answers d w in
-        (a, same ∙ sym (number-there plain-laws sized p), record { answers = same; leaves = leaves-there plain-laws sized p })
+        let (a, same) = write-answers (desk-of m) w in
+        (a, same ∙ sym (number-there plain-laws sized (p .does)), record { answers = same; leaves = leaves-there plain-laws sized (p .does) })
 
     pub sized-after-write : state-sized plainly m′
-    sized-after-write = sized-after plain-laws sized p (sized-of-appended (d .state) (record-of w))
+    sized-after-write = sized-after plain-laws sized (p .does) (sized-of-appended (desk-of m .state) (record-of w))
 
   pub linked-read : {work : List ℕ} {addr len number : ℕ} {work′ : List ℕ} → SkaldriftRead m work addr len number work′
-      → (a : Answer) × (answer-number a ≡ number) × Fills d work addr len a work′
+      → (a : Answer) × (answer-number a ≡ number) × Fills (desk-of m) work addr len a work′
   linked-read {work} {addr} {len} p =
       let at : Desk → ℕ = λ d. read-number d work addr len in
-      let (a, same) = read-answers d work addr len in (
+      let (a, same) = read-answers (desk-of m) work addr len in (
         a,
         same ∙ called-at plainly m sized 1 at ∙ sym (p .answers),
-        record { answers = same; fills = p .fills ∙ sym (called-by plainly m sized at (readable (view d)) work) },
+        record { answers = same; fills = p .fills ∙ sym (called-by plainly m sized at (readable (view (desk-of m))) work) },
       )
 
   module _ {number : ℕ} {m′ : Lent} (p : SkaldriftFlush m number m′) where
-    pub linked-flush : (a : Answer) × (answer-number a ≡ number) × Flushes d a (desk-of m′)
+    pub linked-flush : (a : Answer) × (answer-number a ≡ number) × Flushes (desk-of m) a (desk-of m′)
     linked-flush =
-        let (a, same) = flush-answers d in
-        (a, same ∙ sym (number-there plain-laws sized p), record { answers = same; leaves = leaves-there plain-laws sized p })
+        let (a, same) = flush-answers (desk-of m) in
+        (a, same ∙ sym (number-there plain-laws sized (p .does)), record { answers = same; leaves = leaves-there plain-laws sized (p .does) })
 
     pub sized-after-flush : state-sized plainly m′
-    sized-after-flush = sized-after plain-laws sized p (λ full. full)
+    sized-after-flush = sized-after plain-laws sized (p .does) (λ full. full)
 
   module _ {rows : List ℕ} {report number : ℕ} {m′ : Lent} {report′ : ℕ} (p : SkaldriftCut m rows report number m′ report′) where
-    pub linked-cut : (a : CutAnswer) × (cut-report a .number ≡ number) × (reported (cut-report a) report ≡ report′) × Cuts d rows a (desk-of m′)
+    pub linked-cut : (a : CutAnswer) × (cut-report a .number ≡ number) × (reported (cut-report a) report ≡ report′) × Cuts (desk-of m) rows a (desk-of m′)
     linked-cut =
         let at : Desk → ℕ = λ d. cut-number d rows in
-        let kept = kept-by-rows d rows 0 in
-        let (a, same) = cut-answered kept (at d) (cut-answers d rows) in (
+        let kept = kept-by-rows (desk-of m) rows 0 in
+        let (a, same) = cut-answered kept (at (desk-of m)) (cut-answers (desk-of m) rows) in (
           a,
           ap (λ (r : Report). r .number) same ∙ sym (number-there plain-laws sized (p .does)),
-          ap (λ (r : Report). reported r report) same ∙ report-by (at d) kept report ∙ called-by plainly m sized at kept report ∙ sym (p .reports),
+          ap (λ (r : Report). reported r report) same ∙ report-by (at (desk-of m)) kept report ∙ called-by plainly m sized at kept report ∙ sym (p .reports),
           record { answers = same; leaves = leaves-there plain-laws sized (p .does) },
         )
 
@@ -93,9 +85,9 @@ module _ {m : Lent} (sized : state-sized plainly m) where
 
   module _ {sheet work : List ℕ} {w : Write} {report number : ℕ} {work′ : List ℕ} {report′ : ℕ} where
     pub linked-judge : SkaldriftJudge m sheet work w report number work′ report′
-        → (v : Verdict) × (verdict-report v .number ≡ number) × (reported (verdict-report v) report ≡ report′) × Judges d sheet work w v work′
+        → (v : Verdict) × (verdict-report v .number ≡ number) × (reported (verdict-report v) report ≡ report′) × Judges (desk-of m) sheet work w v work′
     linked-judge p =
-        let (v, same) = judge-speaks d sheet work w in (
+        let (v, same) = judge-speaks (desk-of m) sheet work w in (
           v,
           ap (λ (r : Report). r .number) same ∙ called-at plainly m sized 1 (λ d. judge-number d sheet work w) ∙ sym (p .answers),
           ap (λ (r : Report). reported r report) same ∙ called-at plainly m sized report (λ d. reported (judge-report d sheet work w) report) ∙ sym (p .reports),
@@ -103,13 +95,13 @@ module _ {m : Lent} (sized : state-sized plainly m) where
         )
 
     module _ {m′ : Lent} (p : SkaldriftGate m sheet work w report number m′ work′ report′) where
-      pub linked-gate : (v : Verdict) × (verdict-report v .number ≡ number) × (reported (verdict-report v) report ≡ report′) × Gates d sheet work w v (desk-of m′) work′
+      pub linked-gate : (v : Verdict) × (verdict-report v .number ≡ number) × (reported (verdict-report v) report ≡ report′) × Gates (desk-of m) sheet work w v (desk-of m′) work′
       linked-gate =
           let (v, same, told, j) = linked-judge (p .judges) in
           (v, same, told, record { judges = j; leaves = leaves-there plain-laws sized (p .does) })
 
       pub sized-after-gate : state-sized plainly m′
-      sized-after-gate = sized-after plain-laws sized (p .does) (sized-of-appended (d .state) (record-of w))
+      sized-after-gate = sized-after plain-laws sized (p .does) (sized-of-appended (desk-of m .state) (record-of w))
 
 -- by tape
 module _ {t : TapeLent} {tape : List ℕ} (sized : state-sized on-tape t) where
@@ -117,19 +109,19 @@ module _ {t : TapeLent} {tape : List ℕ} (sized : state-sized on-tape t) where
     pub linked-tape-write : (a : Answer) × (answer-number a ≡ number) × TapeWrites (tape-desk-of t) tape w a (tape-desk-of t′)
     linked-tape-write =
         let (a, same) = tape-write-answers (tape-desk-of t) tape w in
-        (a, same ∙ sym (number-there tape-laws sized p), record { answers = same; leaves = leaves-there tape-laws sized p })
+        (a, same ∙ sym (number-there tape-laws sized (p .does)), record { answers = same; leaves = leaves-there tape-laws sized (p .does) })
 
     pub sized-after-tape-write : state-sized on-tape t′
-    sized-after-tape-write = sized-after tape-laws sized p (sized-of-appended (desk-of (t .memory) .state) (record-of w))
+    sized-after-tape-write = sized-after tape-laws sized (p .does) (sized-of-appended (desk-of (t .memory) .state) (record-of w))
 
   module _ {number : ℕ} {t′ : TapeLent} (p : SkaldriftTapeFlush t tape number t′) where
     pub linked-tape-flush : (a : Answer) × (answer-number a ≡ number) × TapeFlushes (tape-desk-of t) tape a (tape-desk-of t′)
     linked-tape-flush =
         let (a, same) = ending-answers (tape-desk-of t) tape true in
-        (a, same ∙ sym (number-there tape-laws sized p), record { answers = same; leaves = leaves-there tape-laws sized p })
+        (a, same ∙ sym (number-there tape-laws sized (p .does)), record { answers = same; leaves = leaves-there tape-laws sized (p .does) })
 
     pub sized-after-tape-flush : state-sized on-tape t′
-    sized-after-tape-flush = sized-after tape-laws sized p (λ full. full)
+    sized-after-tape-flush = sized-after tape-laws sized (p .does) (λ full. full)
 
   module _ {report number : ℕ} {t′ : TapeLent} {report′ : ℕ} (p : SkaldriftTapeCut t tape report number t′ report′) where
     pub linked-tape-cut : (a : CutAnswer) × (cut-report a .number ≡ number) × (reported (cut-report a) report ≡ report′)

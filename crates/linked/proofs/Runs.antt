@@ -68,7 +68,7 @@ refused-of (answer.Refused r) same = (r, refl)
 -- a good opening is the library's, and leaves words that say a state
 pub opens : {m : Lent} {sheet : List ℕ} {m′ : Lent} → SkaldriftOpen m sheet 0 m′ → state-sized plainly m′ × Opens (desk-of m) sheet answer.Done (desk-of m′)
 opens {m} {sheet} p =
-    let sized = sized-if-done plainly m (λ d. open-number d sheet) (sym (p .answers)) in
+    let sized = sized-if-done plainly m (λ d. open-number d sheet) (sym (p .does .answers)) in
     let (a, same, o) = linked-open sized p in
     (sized-after-open sized p, rw (done-of a same) at o)
 

@@ -72,10 +72,10 @@ module _ (sheet tape : List ℕ) where
       abbrev C : ℕ
       C = chunk-size (desk-of (t .memory))
 
-      module _ {predicted : List ℕ} where
-        sized : state-sized on-tape (lent-by-tape (t .memory) (t .start) predicted)
-        sized = linked-both calls .0
+      sized : state-sized on-tape t
+      sized = linked-both calls .0
 
+      module _ {predicted : List ℕ} where
         pub linked-write-predicts : {w : Write} {t′ : TapeLent} → SkaldriftTapeWrite (lent-by-tape (t .memory) (t .start) predicted) tape w 0 t′
             → t′ .predicted ≡ prediction C tape image (h then written w)
         linked-write-predicts p = let (a, same, w) = linked-tape-write sized p in linked-tape-session calls .write-predicts (rw (done-of a same) at w)
