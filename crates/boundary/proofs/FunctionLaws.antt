@@ -3,7 +3,6 @@
 use Prim.Native.Nat.{ℕ, zero, suc, _+_}
 use mathlib.Core.Path.{_≡_, refl, ap, subst, _∙_}
 use mathlib.Core.List.{List}
-use lib.ListN.{length}
 use Rattle.region.specs.Answer.{Report, answer-number, if-done}
 use Rattle.region.specs.declared.Answer.{Answer}
 use Rattle.pieces.specs.AsyncSpec.{Write, readable}
@@ -21,12 +20,12 @@ use Rattle.tape.specs.Memory.{TapeDesk, by-tape}
 use Rattle.tape.specs.Write.{TapeWrites}
 use Rattle.tape.specs.Flush.{TapeFlushes}
 use Rattle.tape.specs.Cut.{tape-cut-number, TapeCuts}
-use Rattle.boundary.specs.Words.{state-words, state-of, words-of, reported}
+use Rattle.boundary.specs.Words.{state-of, words-of, reported}
 use Rattle.boundary.specs.Lent.{Lent, lent, desk-of, TapeLent, lent-by-tape, Crossing, plainly, on-tape, at-desk}
 use Rattle.boundary.specs.Log.{SkaldriftWrite, SkaldriftRead, SkaldriftFlush, SkaldriftCut}
 use Rattle.boundary.specs.Gate.{SkaldriftOpen, SkaldriftJudge, SkaldriftGate}
 use Rattle.boundary.specs.Tape.{SkaldriftTapeWrite, SkaldriftTapeFlush, SkaldriftTapeCut}
-use Rattle.boundary.proofs.CallLaws.{plain-laws, tape-laws, refused-at, refused-by, called-at, called-by, wrong, right}
+use Rattle.boundary.proofs.CallLaws.{state-sized, plain-laws, tape-laws, refused-at, refused-by, called-at, called-by, wrong, right}
 
 -- a desk with this state, and one that lends these words
 abbrev pub desk-with : Lent → State → Desk
@@ -49,7 +48,7 @@ pub report-by : (n kept held : ℕ) → reported (cut-told kept n) held ≡ if-d
 report-by zero kept held = refl
 report-by (suc why) kept held = refl
 
-module _ {M D : Type 0} (X : Crossing M D) (m : M) (sized : length (X .words m) ≡ state-words) (number-of kept-of : D → ℕ) where
+module _ {M D : Type 0} (X : Crossing M D) (m : M) (sized : state-sized X m) (number-of kept-of : D → ℕ) where
   reports-kept : (answer : CutAnswer) (held : ℕ) {d : D} {report : ℕ} → d ≡ X .inward m → cut-report answer ≡ cut-told (kept-of d) (number-of d)
       → report ≡ reported (cut-report answer) held → report ≡ if-done (at-desk X m 1 number-of) (kept-of (X .inward m)) held
   reports-kept answer held loaded answers reports =
@@ -59,7 +58,7 @@ module _ {M D : Type 0} (X : Crossing M D) (m : M) (sized : length (X .words m) 
       ∙ called-by X m sized number-of (kept-of here) held
 
 -- words of another number: write, flush and opening, with a tape or without, are refused by `wrong` itself
-module _ {m : Lent} (other : length (m .words) ≡ state-words → ⊥) {number : ℕ} (told : number ≡ 1) where
+module _ {m : Lent} (other : state-sized plainly m → ⊥) {number : ℕ} (told : number ≡ 1) where
   pub read-wrong : {work : List ℕ} {addr len : ℕ} → SkaldriftRead m work addr len number work
   read-wrong {work} {addr} {len} =
       let number-of : Desk → ℕ = λ d. read-number d work addr len in
@@ -81,7 +80,7 @@ module _ {m : Lent} (other : length (m .words) ≡ state-words → ⊥) {number 
     pub gate-wrong : SkaldriftGate m sheet work w report number m work report
     gate-wrong = record { judges = judge-wrong; does = wrong other told }
 
-pub tape-cut-wrong : {t : TapeLent} {tape : List ℕ} {report number : ℕ} → (length (t .memory .words) ≡ state-words → ⊥) → number ≡ 1
+pub tape-cut-wrong : {t : TapeLent} {tape : List ℕ} {report number : ℕ} → (state-sized on-tape t → ⊥) → number ≡ 1
     → SkaldriftTapeCut t tape report number t report
 tape-cut-wrong {t} {tape} {report} other told =
     record {
@@ -90,7 +89,7 @@ tape-cut-wrong {t} {tape} {report} other told =
     }
 
 -- words of the right number, without a tape
-module _ {m : Lent} (sized : length (m .words) ≡ state-words) {st : State} (loaded : st ≡ state-of (m .words)) where
+module _ {m : Lent} (sized : state-sized plainly m) {st : State} (loaded : st ≡ state-of (m .words)) where
   pub read-right : {work work′ : List ℕ} {addr len number : ℕ} {answer : Answer} → number ≡ answer-number answer
       → Fills (desk-with m st) work addr len answer work′ → SkaldriftRead m work addr len number work′
   read-right {work} {work′} {addr} {len} {answer = answer} told call =
@@ -145,7 +144,7 @@ module _ {m : Lent} (sized : length (m .words) ≡ state-words) {st : State} (lo
         }
 
 -- and with one
-module _ {t t′ : TapeLent} {tape : List ℕ} {number : ℕ} (sized : length (t .memory .words) ≡ state-words)
+module _ {t t′ : TapeLent} {tape : List ℕ} {number : ℕ} (sized : state-sized on-tape t)
     {st st′ : State} (loaded : st ≡ state-of (t .memory .words)) (stored : t′ .memory .words ≡ words-of st′) where
   module _ {answer : Answer} (told : number ≡ answer-number answer) where
     pub tape-write-right : {w : Write} → TapeWrites (tape-desk-with t st) tape w answer (tape-desk-with t′ st′) → SkaldriftTapeWrite t tape w number t′

@@ -25,7 +25,8 @@ pub extern "C" fn skaldrift_run(
     val1: u8,
     rounds: u64,
 ) -> u64
-    ensures { λ r. ⌜ SkaldriftRun (now (image .entry)) (now (log .entry)) (now (work .entry)) addr val0 val1 rounds r (now (image .exit)) (now (log .exit)) (now (work .exit)) ⌝ }
+    ensures { λ r. ⌜ SkaldriftRun (now (image .entry)) (now (log .entry)) (now (work .entry)) addr val0 val1 rounds
+        r (now (image .exit)) (now (log .exit)) (now (work .exit)) ⌝ }
 {
     let answer = run(image, log, work, addr as usize, val0, val1, rounds);
     run_answer_number(answer)

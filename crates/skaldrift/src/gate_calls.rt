@@ -16,7 +16,10 @@ ghost use Rattle.boundary.specs.Gate.{SkaldriftOpen, SkaldriftJudge, SkaldriftG
 // Judges the image and starts an empty log. Of the state only its length is looked at.
 #[no_mangle]
 pub extern "C" fn skaldrift_open(state: &mut [u64], image: &[u8], log: &[u8], sheet: &[u8]) -> u64
-    ensures { λ r. ⌜ SkaldriftOpen (lent (now (image .entry)) (now (state .entry)) (now (log .entry))) (now (sheet .entry)) r (lent (now (image .entry)) (now (state .exit)) (now (log .entry))) ⌝ }
+    ensures { λ r. ⌜ SkaldriftOpen
+        (lent (now (image .entry)) (now (state .entry)) (now (log .entry)))
+        (now (sheet .entry)) r
+        (lent (now (image .entry)) (now (state .exit)) (now (log .entry))) ⌝ }
 {
     if state.len() != STATE_WORDS {
         return refusal_number(Refusal::BadState);
@@ -40,7 +43,10 @@ pub extern "C" fn skaldrift_judge(
     data: &[u8],
     report: &mut u64,
 ) -> u64
-    ensures { λ r. ⌜ SkaldriftJudge (lent (now (image .entry)) (now (state .entry)) (now (log .entry))) (now (sheet .entry)) (now (work .entry)) (write-of addr (now («data» .entry))) (now (report .entry)) r (now (work .exit)) (now (report .exit)) ⌝ }
+    ensures { λ r. ⌜ SkaldriftJudge
+        (lent (now (image .entry)) (now (state .entry)) (now (log .entry)))
+        (now (sheet .entry)) (now (work .entry)) (write-of addr (now («data» .entry))) (now (report .entry)) r
+        (now (work .exit)) (now (report .exit)) ⌝ }
 {
     if state.len() != STATE_WORDS {
         return refusal_number(Refusal::BadState);
@@ -62,7 +68,10 @@ pub extern "C" fn skaldrift_gate(
     data: &[u8],
     report: &mut u64,
 ) -> u64
-    ensures { λ r. ⌜ SkaldriftGate (lent (now (image .entry)) (now (state .entry)) (now (log .entry))) (now (sheet .entry)) (now (work .entry)) (write-of addr (now («data» .entry))) (now (report .entry)) r (lent (now (image .entry)) (now (state .exit)) (now (log .exit))) (now (work .exit)) (now (report .exit)) ⌝ }
+    ensures { λ r. ⌜ SkaldriftGate
+        (lent (now (image .entry)) (now (state .entry)) (now (log .entry)))
+        (now (sheet .entry)) (now (work .entry)) (write-of addr (now («data» .entry))) (now (report .entry)) r
+        (lent (now (image .entry)) (now (state .exit)) (now (log .exit))) (now (work .exit)) (now (report .exit)) ⌝ }
 {
     if state.len() != STATE_WORDS {
         return refusal_number(Refusal::BadState);

@@ -34,7 +34,10 @@ pub extern "C" fn skaldrift_write(
     addr: u64,
     data: &[u8],
 ) -> u64
-    ensures { λ r. ⌜ SkaldriftWrite (lent (now (image .entry)) (now (state .entry)) (now (log .entry))) (write-of addr (now («data» .entry))) r (lent (now (image .entry)) (now (state .exit)) (now (log .exit))) ⌝ }
+    ensures { λ r. ⌜ SkaldriftWrite
+        (lent (now (image .entry)) (now (state .entry)) (now (log .entry)))
+        (write-of addr (now («data» .entry))) r
+        (lent (now (image .entry)) (now (state .exit)) (now (log .exit))) ⌝ }
 {
     if state.len() != STATE_WORDS {
         return refusal_number(Refusal::BadState);
@@ -69,7 +72,9 @@ pub extern "C" fn skaldrift_read(
 // Makes the read image the image, and empties the log.
 #[no_mangle]
 pub extern "C" fn skaldrift_flush(state: &mut [u64], image: &mut [u8], log: &[u8]) -> u64
-    ensures { λ r. ⌜ SkaldriftFlush (lent (now (image .entry)) (now (state .entry)) (now (log .entry))) r (lent (now (image .exit)) (now (state .exit)) (now (log .entry))) ⌝ }
+    ensures { λ r. ⌜ SkaldriftFlush
+        (lent (now (image .entry)) (now (state .entry)) (now (log .entry))) r
+        (lent (now (image .exit)) (now (state .exit)) (now (log .entry))) ⌝ }
 {
     if state.len() != STATE_WORDS {
         return refusal_number(Refusal::BadState);
@@ -90,7 +95,10 @@ pub extern "C" fn skaldrift_cut(
     rows: &[u8],
     report: &mut u64,
 ) -> u64
-    ensures { λ r. ⌜ SkaldriftCut (lent (now (image .entry)) (now (state .entry)) (now (log .entry))) (now (rows .entry)) (now (report .entry)) r (lent (now (image .exit)) (now (state .exit)) (now (log .entry))) (now (report .exit)) ⌝ }
+    ensures { λ r. ⌜ SkaldriftCut
+        (lent (now (image .entry)) (now (state .entry)) (now (log .entry)))
+        (now (rows .entry)) (now (report .entry)) r
+        (lent (now (image .exit)) (now (state .exit)) (now (log .entry))) (now (report .exit)) ⌝ }
 {
     if state.len() != STATE_WORDS {
         return refusal_number(Refusal::BadState);

@@ -25,7 +25,10 @@ pub extern "C" fn skaldrift_tape_write(
     addr: u64,
     data: &[u8],
 ) -> u64
-    ensures { λ r. ⌜ SkaldriftTapeWrite (lent-by-tape (lent (now (image .entry)) (now (state .entry)) (now (log .entry))) start (now (predicted .entry))) (now (tape .entry)) (write-of addr (now («data» .entry))) r (lent-by-tape (lent (now (image .entry)) (now (state .exit)) (now (log .exit))) start (now (predicted .exit))) ⌝ }
+    ensures { λ r. ⌜ SkaldriftTapeWrite
+        (lent-by-tape (lent (now (image .entry)) (now (state .entry)) (now (log .entry))) start (now (predicted .entry)))
+        (now (tape .entry)) (write-of addr (now («data» .entry))) r
+        (lent-by-tape (lent (now (image .entry)) (now (state .exit)) (now (log .exit))) start (now (predicted .exit))) ⌝ }
 {
     if state.len() != STATE_WORDS {
         return refusal_number(Refusal::BadState);
@@ -56,7 +59,10 @@ pub extern "C" fn skaldrift_tape_flush(
     start: &mut u64,
     predicted: &mut [u8],
 ) -> u64
-    ensures { λ r. ⌜ SkaldriftTapeFlush (lent-by-tape (lent (now (image .entry)) (now (state .entry)) (now (log .entry))) (now (start .entry)) (now (predicted .entry))) (now (tape .entry)) r (lent-by-tape (lent (now (image .exit)) (now (state .exit)) (now (log .entry))) (now (start .exit)) (now (predicted .exit))) ⌝ }
+    ensures { λ r. ⌜ SkaldriftTapeFlush
+        (lent-by-tape (lent (now (image .entry)) (now (state .entry)) (now (log .entry))) (now (start .entry)) (now (predicted .entry)))
+        (now (tape .entry)) r
+        (lent-by-tape (lent (now (image .exit)) (now (state .exit)) (now (log .entry))) (now (start .exit)) (now (predicted .exit))) ⌝ }
 {
     if state.len() != STATE_WORDS {
         return refusal_number(Refusal::BadState);
@@ -80,7 +86,10 @@ pub extern "C" fn skaldrift_tape_cut(
     predicted: &mut [u8],
     report: &mut u64,
 ) -> u64
-    ensures { λ r. ⌜ SkaldriftTapeCut (lent-by-tape (lent (now (image .entry)) (now (state .entry)) (now (log .entry))) (now (start .entry)) (now (predicted .entry))) (now (tape .entry)) (now (report .entry)) r (lent-by-tape (lent (now (image .exit)) (now (state .exit)) (now (log .entry))) (now (start .exit)) (now (predicted .exit))) (now (report .exit)) ⌝ }
+    ensures { λ r. ⌜ SkaldriftTapeCut
+        (lent-by-tape (lent (now (image .entry)) (now (state .entry)) (now (log .entry))) (now (start .entry)) (now (predicted .entry)))
+        (now (tape .entry)) (now (report .entry)) r
+        (lent-by-tape (lent (now (image .exit)) (now (state .exit)) (now (log .entry))) (now (start .exit)) (now (predicted .exit))) (now (report .exit)) ⌝ }
 {
     if state.len() != STATE_WORDS {
         return refusal_number(Refusal::BadState);

@@ -14,7 +14,8 @@ right-words c =
     let at-gate = at-stored .before .before .before .before .before .before in
     let at-loaded = at-gate .before .before .before in
     let at-test = at-loaded .before .before in
-    gate-right (at-test .if1 .left) (at-loaded .loaded .ensures) (c .verdict-number .ensures .0) (c .verdict-number .ensures .1) (at-stored .stored .ensures) (at-gate .gate .ensures)
+    gate-right (at-test .if1 .left) (at-loaded .loaded .ensures)
+    (c .verdict-number .ensures .0) (c .verdict-number .ensures .1) (at-stored .stored .ensures) (at-gate .gate .ensures)
 
 pub skaldrift-gate-spec : {M : Type 1} → statement M
 skaldrift-gate-spec =

@@ -14,7 +14,8 @@ right-words c =
     let at-cut = at-stored .before .before .before .before in
     let at-loaded = at-cut .before .before in
     let at-test = at-loaded .before .before in
-    cut-right (at-test .if1 .left) (at-loaded .loaded .ensures) (at-stored .stored .ensures) (c .cut-number .ensures .0) (c .cut-number .ensures .1) (at-cut .cut .ensures)
+    cut-right (at-test .if1 .left) (at-loaded .loaded .ensures) (at-stored .stored .ensures)
+    (c .cut-number .ensures .0) (c .cut-number .ensures .1) (at-cut .cut .ensures)
 
 pub skaldrift-cut-spec : {M : Type 1} → statement M
 skaldrift-cut-spec =
