@@ -57,7 +57,7 @@ module _ {M D : Type 0} (X : Crossing M D) (m : M) (sized : state-sized X m) (nu
       reports ∙ ap (λ (r : Report). reported r held) answers-here ∙ report-by (number-of here) (kept-of here) held
       ∙ called-by X m sized number-of (kept-of here) held
 
--- words of another number: write, flush and opening, with a tape or without, are refused by `wrong` itself
+-- words of another number: what write, flush and opening do, with a tape or without, is `wrong` itself
 module _ {m : Lent} (other : state-sized plainly m → ⊥) {number : ℕ} (told : number ≡ 1) where
   pub read-wrong : {work : List ℕ} {addr len : ℕ} → SkaldriftRead m work addr len number work
   read-wrong {work} {addr} {len} =

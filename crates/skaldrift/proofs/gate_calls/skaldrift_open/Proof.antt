@@ -7,7 +7,7 @@ use Rattle.skaldrift.proofs.gate_calls.skaldrift_open.Statement.{statem
 use Rattle.skaldrift.proofs.gate_calls.skaldrift_open.Tie as tie
 
 wrong-words : tie.Need-returns
-wrong-words c = wrong (c .before .if1 .taken) (c .refusal-number .ensures)
+wrong-words c = record { does = wrong (c .before .if1 .taken) (c .refusal-number .ensures) }
 
 right-words : tie.Need-returns-2
 right-words c =
