@@ -120,9 +120,6 @@ module _ {M D : Type 0} {X : Crossing M D} (laws : CrossingLaws X) {number-of : 
         let here = X .inward m in
         desk-by laws m sized (number-of here) (done here) (does .leaves ∙ sym (called-by X m sized number-of (X .outward (done here)) m))
 
-    pub leaves-by-number : X .inward m′ ≡ if-done number (done (X .inward m)) (X .inward m)
-    leaves-by-number = leaves-there ∙ ap (λ (n : ℕ). if-done n (done (X .inward m)) (X .inward m)) (sym number-there)
-
     pub sized-after : (length (laws .state (X .inward m) .records) ≡ writes-limit → length (laws .state (done (X .inward m)) .records) ≡ writes-limit)
         → state-sized X m′
     sized-after keeps =

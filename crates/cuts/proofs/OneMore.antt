@@ -6,11 +6,10 @@ use mathlib.Core.Path.{_≡_, refl, ap}
 use mathlib.Core.Bool.{Bool}
 use mathlib.Core.List.{List, [], _∷_, _++_}
 use lib.ListN.{length}
-use Rattle.region.specs.Pmemspec.{update-bytes}
 use Rattle.pieces.specs.AsyncSpec.{Write, AsyncView, apply-write, apply-write-selective, flush-writes, flush-writes-selective, flush-selective, readable, write}
 
 -- a replay of two logs, one after the other, with the rows of each
-pub replay-in-two : (C : ℕ) (s : List ℕ) (ws ws′ : List Write) (rows rows′ : List (List Bool)) → length rows ≡ length ws
+replay-in-two : (C : ℕ) (s : List ℕ) (ws ws′ : List Write) (rows rows′ : List (List Bool)) → length rows ≡ length ws
     → flush-writes-selective C s (ws ++ ws′) (rows ++ rows′) ≡ flush-writes-selective C (flush-writes-selective C s ws rows) ws′ rows′
 unfolding flush-writes-selective
 replay-in-two C s [] ws′ [] rows′ l = refl

@@ -9,7 +9,7 @@ use native.Mathlib.Numerals.{add-one}
 use lib.ListN.{length, getD, take, length-append}
 use lib.Seq.{ext-getD}
 use Rattle.region.specs.Tab.{tab}
-use Rattle.region.specs.Pmemspec.{update-bytes, chunk-corresponds, can-result-from-partial-write}
+use Rattle.region.specs.Pmemspec.{chunk-corresponds, can-result-from-partial-write}
 use Rattle.region.proofs.Tab.{length-tab, getD-tab}
 use Rattle.pieces.specs.AsyncSpec.{Write, apply-write, AsyncView, size-to-chunks, apply-write-selective, flush-selective, write, can-crash-as, can-crash}
 use Rattle.cuts.specs.Bits.{covers, view-chunks}

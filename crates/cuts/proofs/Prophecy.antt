@@ -47,9 +47,6 @@ module _ (C : ℕ) (C⁺ : 0 < C) (v : AsyncView) (rows : List (List Bool)) wher
   foretold-flush-keeps-everything k =
       ap (λ x. record { read-state = readable v; durable-state = x }) (flush-is-the-cut-that-keeps-everything C C⁺ v rows k)
 
-  pub flush-predicted-if-foretold : flush-predicted (prophecy C true v rows)
-  flush-predicted-if-foretold = refl
-
   pub flush-predicted-if-all-kept : keeps-all C (view-chunks C v) (v .outstanding-writes) rows → flush-predicted (prophecy C false v rows)
   flush-predicted-if-all-kept k = flush-is-the-cut-that-keeps-everything C C⁺ v rows k
 

@@ -38,7 +38,7 @@ use Rattle.tape.specs.Write.{tape-room-number, tape-write-number}
 use Rattle.tape.specs.Ending.{as-foretold, ending-number, tape-ending-number}
 use Rattle.example.specs.Setup.{setup-number}
 use Rattle.example.specs.Valid.{app-valid}
-use Rattle.example.specs.Run.{rounds-limit, run-answer-number, fits-number, run-number}
+use Rattle.example.specs.Run.{rounds-limit, run-answer-number, run-number}
 use Rattle.example.specs.declared.RunAnswer.{RunAnswer}
 use Rattle.example.specs.declared.RunAnswer.the-variants as run-answer
 
