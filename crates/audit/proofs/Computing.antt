@@ -1,4 +1,4 @@
--- What the worked histories compute with. To unfold `everything` is to unfold all that its line names.
+-- What the worked histories compute with. To unfold `everything` is to unfold all that its line names, and all that is named by what it names.
 use Rattle.region.specs.Tab.{tab, tab-from}
 use Rattle.region.specs.Pmemspec.{update-bytes}
 use Rattle.pieces.specs.AsyncSpec.{apply-write-selective, flush-writes, flush-writes-selective}
@@ -7,8 +7,9 @@ use Rattle.pieces.specs.Rows.{row-at, rows-at, set-bits, row-filled, rows-fille
 use Rattle.pieces.specs.Kept.{kept, kept-of}
 use Rattle.cuts.specs.Search.{finding, finding-from}
 use Rattle.bits.specs.Bits.{field, read-field}
-use Rattle.sheet.specs.Sheet.{clause-holds, empty-holds, join, holds, read-tagged, read-entry, read-members, read-rest, read-rule, read-edition, filling, read-filling, read-whole, read-sheet, well-formed, obeys}
-use Rattle.records.specs.State.{together, writes-of, records-inside, sound}
+use Rattle.sheet.specs.Sheet.{clause-holds, empty-holds, join, holds, read-tagged, read-entry, read-members, read-rest, read-rule, read-edition}
+use Rattle.sheet.specs.Sheet.{filling, read-filling, read-whole, read-sheet, well-formed, obeys}
+use Rattle.records.specs.State.{together, writes-of, records-inside, sound-for}
 use Rattle.writelog.specs.Write.{write-number}
 use Rattle.writelog.specs.Flush.{flush-number}
 use Rattle.writelog.specs.Cut.{cut-number}
@@ -20,6 +21,30 @@ use Rattle.tape.specs.Ending.{ending-number}
 use Rattle.session.specs.History.{happen, replay}
 use Rattle.session.specs.TapeTheorem.{tell, replay-by-tape, filled}
 
+unfoldable images : Type 0
+unfolding tab tab-from update-bytes apply-write-selective flush-writes flush-writes-selective
+images = record {}
+
+unfoldable choices : Type 0
+unfolding touched points row-of rows-of row-at rows-at set-bits row-filled rows-filled kept kept-of finding finding-from
+choices = record {}
+
+unfoldable rules : Type 0
+unfolding clause-holds empty-holds join holds well-formed obeys
+rules = record {}
+
+unfoldable reading : Type 0
+unfolding field read-field read-tagged read-entry read-members read-rest read-rule read-edition filling read-filling read-whole read-sheet
+reading = record {}
+
+unfoldable numbers : Type 0
+unfolding together writes-of records-inside sound-for write-number flush-number cut-number open-number judgement
+numbers = record {}
+
+unfoldable tapes : Type 0
+unfolding epoch-number tape-room-number tape-write-number ending-number
+tapes = record {}
+
 unfoldable pub everything : Type 0
-unfolding tab tab-from update-bytes apply-write-selective flush-writes flush-writes-selective touched points row-of rows-of row-at rows-at set-bits row-filled rows-filled kept kept-of finding finding-from clause-holds empty-holds join holds field read-field read-tagged read-entry read-members read-rest read-rule read-edition filling read-filling read-whole read-sheet well-formed obeys together writes-of records-inside sound write-number flush-number cut-number open-number judgement epoch-number tape-room-number tape-write-number ending-number happen replay tell replay-by-tape filled
+unfolding images choices rules reading numbers tapes happen replay tell replay-by-tape filled
 everything = record {}

@@ -4,14 +4,9 @@ pub mod Clauses
 pub mod Accepted
 pub mod FirstTime
 pub mod EachChunk
--- No promise leaves a choice: the scheme, and the calls of each crate.
+-- No promise leaves a choice: the scheme, and the library's calls.
 pub mod Pinning
-pub mod PinnedRegion
-pub mod PinnedWritelog
-pub mod PinnedGate
-pub mod PinnedTape
-pub mod PinnedExample
-pub mod PinnedSkaldrift
+pub mod Pinned
 -- `Worked` is a session that is one, so the theorems of `session` speak of something. `Sharp` and, by tape, `SharpTape` have for each premise a history
 -- that breaks it and what then is false. `Computing` names what they compute with.
 pub mod Computing

@@ -5,25 +5,27 @@ use Prim.Native.Nat.{ℕ}
 use mathlib.Core.Path.{_≡_, refl}
 use mathlib.Core.List.{List, [], _∷_}
 use lib.ListN.{replicate, set}
-use Rattle.region.specs.Limits.{const-persistence-chunk-size, writes-limit, log-limit}
+use Rattle.region.specs.Limits.{writes-limit, log-limit}
 use Rattle.region.specs.declared.Answer.the-variants.{Done, Refused}
 use Rattle.region.specs.declared.Refusal.the-variants.{OutOfRange}
-use Rattle.records.specs.State.{appended, emptied}
+use Rattle.pieces.specs.AsyncSpec.{Write, write-of}
+use Rattle.records.specs.State.{record-of, appended, emptied, fresh}
+use Rattle.records.specs.Desk.{Desk, desk, chunk-size}
+use Rattle.records.specs.declared.state.State.{State}
 use Rattle.writelog.specs.Write.{Writes}
 use Rattle.writelog.specs.Cut.{Cuts}
-use Rattle.records.specs.declared.state.State.{State}
 use Rattle.writelog.specs.declared.cut.CutAnswer.the-variants.{Kept}
-use Rattle.gate.specs.Opening.{fresh, Opens}
+use Rattle.gate.specs.Opening.{Opens}
 use Rattle.gate.specs.Judgement.{Judges, Gates}
 use Rattle.gate.specs.declared.Verdict.the-variants.{Admitted, Denied}
+use Rattle.tape.specs.Memory.{TapeDesk, by-tape}
 use Rattle.tape.specs.Write.{TapeWrites}
 use Rattle.tape.specs.Cut.{TapeCuts}
 use Rattle.session.specs.History.{nothing, written, cut-by, reopened, History, opening, _then_, settled, replay}
-use Rattle.session.specs.Run as run
-use Rattle.session.specs.Run.{desk, Run}
+use Rattle.session.specs.Run.{Run, opened, _and_, gate, refused-write, cut, reopen, judged-tape-write, tape-cut}
 use Rattle.session.specs.Theorem.{Session}
 use Rattle.session.specs.TapeRun as tape-run
-use Rattle.session.specs.TapeRun.{by-tape, TapeRun}
+use Rattle.session.specs.TapeRun.{TapeRun}
 use Rattle.session.specs.TapeTheorem.{TapeSession, prediction}
 use Rattle.audit.proofs.Computing.{everything}
 use Rattle.session.proofs.Theorem.{session}
@@ -43,11 +45,11 @@ any-state = record { count = 99; records = replicate writes-limit (record { addr
 abbrev pub any-log : List ℕ
 any-log = replicate log-limit 0xEE
 
-abbrev pub aa : List ℕ
-aa = 0xAA ∷ 0xAA ∷ []
+abbrev pub aa : Write
+aa = write-of 8 (0xAA ∷ 0xAA ∷ [])
 
-abbrev pub cc : List ℕ
-cc = 0xCC ∷ 0xCC ∷ []
+abbrev pub cc : Write
+cc = write-of 8 (0xCC ∷ 0xCC ∷ [])
 
 -- the images, states and log buffers as they come about
 abbrev pub image-aa : List ℕ
@@ -57,13 +59,42 @@ abbrev pub image-cc : List ℕ
 image-cc = set (set zeros 8 0xCC) 9 0xCC
 
 abbrev pub one-write : State
-one-write = appended fresh 8 2
+one-write = appended fresh (record-of aa)
 
 abbrev pub log-aa : List ℕ
 log-aa = set (set any-log 0 0xAA) 1 0xAA
 
 abbrev pub log-cc : List ℕ
 log-cc = set (set any-log 0 0xCC) 1 0xCC
+
+-- and the desks
+abbrev pub found-desk : Desk
+found-desk = desk zeros any-state any-log
+
+abbrev pub fresh-desk : Desk
+fresh-desk = desk zeros fresh any-log
+
+abbrev pub desk-aa : Desk
+desk-aa = desk zeros one-write log-aa
+
+abbrev cut-desk : Desk
+cut-desk = desk image-aa (emptied one-write) log-aa
+
+abbrev pub reopened-desk : Desk
+reopened-desk = desk image-aa fresh log-aa
+
+abbrev pub desk-cc : Desk
+desk-cc = desk image-aa one-write log-cc
+
+abbrev pub last-desk : Desk
+last-desk = desk image-cc (emptied one-write) log-cc
+
+-- by tape
+abbrev pub tape-cc : TapeDesk
+tape-cc = by-tape desk-cc 0 image-cc
+
+abbrev pub tape-last : TapeDesk
+tape-last = by-tape last-desk 2 image-cc
 
 -- chunk 1 of the one write is kept; and a tape of one epoch that says so
 abbrev rows : List ℕ
@@ -72,68 +103,69 @@ rows = 0x40 ∷ []
 abbrev pub tape : List ℕ
 tape = 0x00 ∷ 0x40 ∷ []
 
-pub the-opening : Opens zeros any-state any-log eight-is-nine Done fresh
+pub the-opening : Opens found-desk eight-is-nine Done fresh-desk
 unfolding everything
-the-opening = record { answers = refl; state-after = refl }
+the-opening = record { answers = refl; leaves = refl }
 
-pub the-admitted-write : Gates zeros fresh any-log eight-is-nine zeros 8 aa (Admitted 1) one-write log-aa image-aa
+pub the-admitted-write : Gates fresh-desk eight-is-nine zeros aa (Admitted 1) desk-aa image-aa
 unfolding everything
-the-admitted-write = record { answers = refl; state-after = refl; log-after = refl; work-after = refl }
+the-admitted-write = record { judges = record { answers = refl; fills = refl }; leaves = refl }
 
 -- of the two writes the newer alone is the first bad choice
-the-denied-write : Gates zeros one-write log-aa eight-is-nine zeros 9 (0xBB ∷ []) (Denied 2) one-write log-aa (set zeros 9 0xBB)
+the-denied-write : Gates desk-aa eight-is-nine zeros (write-of 9 (0xBB ∷ [])) (Denied 2) desk-aa (set zeros 9 0xBB)
 unfolding everything
-the-denied-write = record { answers = refl; state-after = refl; log-after = refl; work-after = refl }
+the-denied-write = record { judges = record { answers = refl; fills = refl }; leaves = refl }
 
-the-refused-write : Writes zeros one-write log-aa 16 (0xBB ∷ []) (Refused OutOfRange) one-write log-aa
+the-refused-write : Writes desk-aa (write-of 16 (0xBB ∷ [])) (Refused OutOfRange) desk-aa
 unfolding everything
-the-refused-write = record { answers = refl; state-after = refl; log-after = refl }
+the-refused-write = record { answers = refl; leaves = refl }
 
-the-cut : Cuts zeros one-write log-aa rows (Kept 1) (emptied one-write) image-aa
+the-cut : Cuts desk-aa rows (Kept 1) cut-desk
 unfolding everything
-the-cut = record { answers = refl; state-after = refl; image-after = refl }
+the-cut = record { answers = refl; leaves = refl }
 
-pub the-reopening : Opens image-aa (emptied one-write) log-aa eight-is-nine Done fresh
+pub the-reopening : Opens cut-desk eight-is-nine Done reopened-desk
 unfolding everything
-the-reopening = record { answers = refl; state-after = refl }
+the-reopening = record { answers = refl; leaves = refl }
 
-pub the-verdict : Judges image-aa fresh log-aa eight-is-nine zeros 8 cc (Admitted 1) image-cc
+pub the-verdict : Judges reopened-desk eight-is-nine zeros cc (Admitted 1) image-cc
 unfolding everything
-the-verdict = record { answers = refl; work-after = refl }
+the-verdict = record { answers = refl; fills = refl }
 
-pub the-tape-write : TapeWrites image-aa fresh log-aa tape 0 zeros 8 cc Done one-write log-cc image-cc
+pub the-tape-write : TapeWrites (by-tape reopened-desk 0 zeros) tape cc Done tape-cc
 unfolding everything
-the-tape-write = record { answers = refl; state-after = refl; log-after = refl; predicted-after = refl }
+the-tape-write = record { answers = refl; leaves = refl }
 
-pub the-tape-cut : TapeCuts image-aa one-write log-cc tape 0 image-cc (Kept 1) (emptied one-write) 2 image-cc image-cc
+pub the-tape-cut : TapeCuts tape-cc tape (Kept 1) tape-last
 unfolding everything
-the-tape-cut = record { answers = refl; state-after = refl; start-after = refl; image-after = refl; predicted-after = refl }
+the-tape-cut = record { answers = refl; leaves = refl }
 
 abbrev the-history : History
-the-history = opening then written 8 aa then nothing then nothing then cut-by rows 0 then reopened then written 8 cc then cut-by tape 1
+the-history = opening then written aa then nothing then nothing then cut-by rows 0 then reopened then written cc then cut-by tape 1
 
-the-run : Run eight-is-nine zeros the-history (desk image-cc (emptied one-write) log-cc)
+the-run : Run eight-is-nine zeros the-history last-desk
 the-run =
-    run._and_ (run._and_ (run._and_ (run._and_ (run._and_ (run._and_ (run._and_ (run.opened the-opening)
-    (run.gate the-admitted-write)) (run.gate the-denied-write)) (run.refused-write the-refused-write)) (run.cut the-cut)) (run.reopen the-reopening)) (run.judged-tape-write the-verdict the-tape-write)) (run.tape-cut the-tape-cut)
+    opened refl the-opening and gate the-admitted-write and gate the-denied-write and refused-write the-refused-write
+    and cut the-cut and reopen the-reopening and judged-tape-write the-verdict the-tape-write and tape-cut the-tape-cut
 
-pub the-session : Session eight-is-nine zeros the-history (desk image-cc (emptied one-write) log-cc)
+pub the-session : Session eight-is-nine zeros the-history last-desk
 the-session = session eight-is-nine zeros the-run
 
 -- its replay, computed
-pub the-replay : replay const-persistence-chunk-size zeros the-history ≡ settled image-cc
+pub the-replay : replay (chunk-size last-desk) zeros the-history ≡ settled image-cc
 unfolding everything
 the-replay = refl
 
 abbrev the-tape-history : History
-the-tape-history = opening then written 8 cc then cut-by tape 1
+the-tape-history = opening then written cc then cut-by tape 1
 
-the-tape-run : TapeRun eight-is-nine tape image-aa the-tape-history (by-tape (desk image-cc (emptied one-write) log-cc) 2 image-cc)
-the-tape-run = tape-run._and_ (tape-run._and_ (tape-run.opened the-reopening) (tape-run.judged-write the-verdict the-tape-write)) (tape-run.cut the-tape-cut)
+the-tape-run : TapeRun eight-is-nine tape image-aa the-tape-history tape-last
+the-tape-run =
+    tape-run._and_ (tape-run._and_ (tape-run.opened refl the-reopening) (tape-run.judged-write the-verdict the-tape-write)) (tape-run.cut the-tape-cut)
 
-pub the-tape-session : TapeSession eight-is-nine tape image-aa the-tape-history (by-tape (desk image-cc (emptied one-write) log-cc) 2 image-cc)
+pub the-tape-session : TapeSession eight-is-nine tape image-aa the-tape-history tape-last
 the-tape-session = tape-session eight-is-nine tape the-tape-run
 
-pub the-prediction : prediction const-persistence-chunk-size tape image-aa (opening then written 8 cc) ≡ image-cc
+pub the-prediction : prediction (chunk-size desk-cc) tape image-aa (opening then written cc) ≡ image-cc
 unfolding everything
 the-prediction = refl

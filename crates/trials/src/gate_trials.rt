@@ -8,9 +8,9 @@ use crate::print::seen;
 use crate::print::verdict;
 use gate::gate::gate;
 use gate::judge::judge;
-use gate::open::fresh;
 use gate::open::open;
 use records::state::State;
+use records::state::fresh;
 use region::numbers::answer_number;
 
 // The opening's number for an image and a sheet.
