@@ -23,7 +23,7 @@ use Rattle.gate.proofs.OpeningLaws.{open-good, open-broken}
 use Rattle.gate.proofs.Gives.{opens-means, opened-fresh}
 use Rattle.example.specs.Valid.{app-valid}
 use Rattle.example.specs.Setup.{setup-number, SetsUp}
-use Rattle.example.specs.Run.{rounds-limit, fits-number, run-fits, run-number, run-answer-number, Runs}
+use Rattle.example.specs.Run.{rounds-limit, fits-number, run-number, run-answer-number, Runs}
 use Rattle.example.specs.Steps.{Under, Repeats}
 use Rattle.example.specs.declared.RunAnswer.{RunAnswer}
 use Rattle.example.specs.declared.RunAnswer.the-variants.{Done, Refused, Denied}
@@ -128,7 +128,7 @@ module _ (image log work : List ℕ) (addr val0 val1 rounds : ℕ) where
   abbrev judged : ℕ
   judged = unless (app-valid addr val0 val1 image) 6 0
 
-  pub run-unfit : (why : Refusal) → run-fits image log work addr val0 val1 rounds ≡ refusal-number why → run-is ≡ refusal-number why
+  pub run-unfit : (why : Refusal) → fits-number (length image) (length log) (length work) addr rounds ≡ refusal-number why → run-is ≡ refusal-number why
   unfolding run-number
   run-unfit why e = stop why judged e
 

@@ -42,12 +42,11 @@ abbrev pub log-after-round : List ℕ → (val0 val1 : ℕ) → List ℕ
 log-after-round log val0 val1 = set (set log 0 val1) 1 val0
 
 module _ (image log work : List ℕ) (addr val0 val1 rounds : ℕ) where
-  abbrev pub run-fits : ℕ
-  run-fits = fits-number (length image) (length log) (length work) addr rounds
-
   -- 6 is "opening: image breaks the sheet": the sheet says `app-valid` (`proofs/SheetLaws.antt`)
   unfoldable pub run-number : ℕ
-  run-number = if-done run-fits (unless (app-valid addr val0 val1 image) 6 0) run-fits
+  run-number =
+      let fits = fits-number (length image) (length log) (length work) addr rounds in
+      if-done fits (unless (app-valid addr val0 val1 image) 6 0) fits
 
   -- what a run promises: its number, and every byte of the image, the log buffer and the working image afterwards
   pub record Runs (answer : RunAnswer) (image′ log′ work′ : List ℕ) : Type 0 where
