@@ -39,7 +39,8 @@ pub fn search(
     points: usize,
 ) -> Outcome
     requires { ⌜ Ready (desk (now image) state (now log)) (length (now work)) (write-of addr (now bytes)) points ⌝ }
-    ensures { λ r. ⌜ Searches (desk (now (image .entry)) state (now (log .entry))) (write-of addr (now (bytes .entry))) (now (sheet .entry)) r (now (work .exit)) ⌝ }
+    ensures { λ r. ⌜ Searches (desk (now (image .entry)) state (now (log .entry)))
+        (write-of addr (now (bytes .entry))) (now (sheet .entry)) r (now (work .exit)) ⌝ }
 {
     let last = (1 << points) - 1;
     let mut m = 0;

@@ -51,7 +51,8 @@ pub fn pair(
     second: u8,
 ) -> Stepped
     requires { ⌜ Under (desk (now image) state (now log)) (now sheet) (now work) addr first second ⌝ }
-    ensures { λ r. ⌜ Goes (desk (now (image .entry)) state (now (log .entry))) addr first second (r .answer) (desk (now (image .exit)) (r .state) (now (log .exit))) (now (work .exit)) ⌝ }
+    ensures { λ r. ⌜ Goes (desk (now (image .entry)) state (now (log .entry))) addr first second (r .answer)
+        (desk (now (image .exit)) (r .state) (now (log .exit))) (now (work .exit)) ⌝ }
 {
     let once = gate(state, image, log, sheet, work, addr, &[first]);
     let verdict = once.verdict;
@@ -92,7 +93,8 @@ pub fn round(
     val1: u8,
 ) -> Stepped
     requires { ⌜ Under (desk (now image) state (now log)) (now sheet) (now work) addr val0 val1 ⌝ }
-    ensures { λ r. ⌜ Goes (desk (now (image .entry)) state (now (log .entry))) addr val1 val0 (r .answer) (desk (now (image .exit)) (r .state) (now (log .exit))) (now (work .exit)) ⌝ }
+    ensures { λ r. ⌜ Goes (desk (now (image .entry)) state (now (log .entry))) addr val1 val0 (r .answer)
+        (desk (now (image .exit)) (r .state) (now (log .exit))) (now (work .exit)) ⌝ }
 {
     let there = pair(state, image, log, sheet, work, addr, val0, val1);
     let answer = there.answer;

@@ -51,7 +51,8 @@ fn repeat(
     rounds: u64,
 ) -> RunAnswer
     requires { ⌜ Under (desk (now image) state (now log)) (now sheet) (now work) addr val0 val1 ⌝ }
-    ensures { λ r. ⌜ Repeats (now (image .entry)) (now (log .entry)) (now (work .entry)) addr val0 val1 rounds r (now (image .exit)) (now (log .exit)) (now (work .exit)) ⌝ }
+    ensures { λ r. ⌜ Repeats (now (image .entry)) (now (log .entry)) (now (work .entry)) addr val0 val1 rounds
+        r (now (image .exit)) (now (log .exit)) (now (work .exit)) ⌝ }
 {
     let mut current = state;
     let mut done = 0;
@@ -78,7 +79,8 @@ pub fn run(
     val1: u8,
     rounds: u64,
 ) -> RunAnswer
-    ensures { λ r. ⌜ Runs (now (image .entry)) (now (log .entry)) (now (work .entry)) addr val0 val1 rounds r (now (image .exit)) (now (log .exit)) (now (work .exit)) ⌝ }
+    ensures { λ r. ⌜ Runs (now (image .entry)) (now (log .entry)) (now (work .entry)) addr val0 val1 rounds r
+        (now (image .exit)) (now (log .exit)) (now (work .exit)) ⌝ }
 {
     let asked = fits(image.len(), log.len(), work.len(), addr, rounds);
     if let Answer::Refused(why) = asked {

@@ -25,7 +25,9 @@ pub fn gate(
     addr: usize,
     bytes: &[u8],
 ) -> Gated
-    ensures { λ r. ⌜ Gates (desk (now (image .entry)) state (now (log .entry))) (now (sheet .entry)) (now (work .entry)) (write-of addr (now (bytes .entry))) (r .verdict) (desk (now (image .entry)) (r .state) (now (log .exit))) (now (work .exit)) ⌝ }
+    ensures { λ r. ⌜ Gates (desk (now (image .entry)) state (now (log .entry))) (now (sheet .entry))
+        (now (work .entry)) (write-of addr (now (bytes .entry))) (r .verdict)
+        (desk (now (image .entry)) (r .state) (now (log .exit))) (now (work .exit)) ⌝ }
 {
     let Outstanding::Bytes(used) = checked(state, image.len(), log.len()) else {
         return Gated {

@@ -42,7 +42,8 @@ fn weigh(
     bytes: &[u8],
 ) -> Verdict
     requires { ⌜ Fitting (desk (now image) state (now log)) (length (now work)) (write-of addr (now bytes)) ⌝ }
-    ensures { λ r. ⌜ Weighs (desk (now (image .entry)) state (now (log .entry))) (now (sheet .entry)) (now (work .entry)) (write-of addr (now (bytes .entry))) r (now (work .exit)) ⌝ }
+    ensures { λ r. ⌜ Weighs (desk (now (image .entry)) state (now (log .entry))) (now (sheet .entry))
+        (now (work .entry)) (write-of addr (now (bytes .entry))) r (now (work .exit)) ⌝ }
 {
     let n = log_points(state) + touched(addr, bytes.len());
     if POINTS_LIMIT < n {
@@ -66,7 +67,8 @@ pub(crate) fn decide(
     bytes: &[u8],
 ) -> Verdict
     requires { ⌜ Checked (desk (now image) state (now log)) used ⌝ }
-    ensures { λ r. ⌜ Judges (desk (now (image .entry)) state (now (log .entry))) (now (sheet .entry)) (now (work .entry)) (write-of addr (now (bytes .entry))) r (now (work .exit)) ⌝ }
+    ensures { λ r. ⌜ Judges (desk (now (image .entry)) state (now (log .entry))) (now (sheet .entry))
+        (now (work .entry)) (write-of addr (now (bytes .entry))) r (now (work .exit)) ⌝ }
 {
     if work.len() != image.len() {
         return Verdict::Refused(Refusal::BadState);
@@ -94,7 +96,8 @@ pub fn judge(
     addr: usize,
     bytes: &[u8],
 ) -> Verdict
-    ensures { λ r. ⌜ Judges (desk (now (image .entry)) state (now (log .entry))) (now (sheet .entry)) (now (work .entry)) (write-of addr (now (bytes .entry))) r (now (work .exit)) ⌝ }
+    ensures { λ r. ⌜ Judges (desk (now (image .entry)) state (now (log .entry))) (now (sheet .entry))
+        (now (work .entry)) (write-of addr (now (bytes .entry))) r (now (work .exit)) ⌝ }
 {
     let Outstanding::Bytes(used) = checked(state, image.len(), log.len()) else {
         return Verdict::Refused(Refusal::BadState);

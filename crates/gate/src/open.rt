@@ -17,7 +17,8 @@ pub struct Opened {
 // Judges the image and starts an empty log. The state that is handed in is not looked at: after a
 // power loss it holds anything.
 pub fn open(state: State, image: &[u8], log: &[u8], sheet: &[u8]) -> Opened
-    ensures { λ r. ⌜ Opens (desk (now (image .entry)) state (now (log .entry))) (now (sheet .entry)) (r .answer) (desk (now (image .entry)) (r .state) (now (log .entry))) ⌝ }
+    ensures { λ r. ⌜ Opens (desk (now (image .entry)) state (now (log .entry))) (now (sheet .entry))
+        (r .answer) (desk (now (image .entry)) (r .state) (now (log .entry))) ⌝ }
 {
     if IMAGE_LIMIT < image.len() {
         return Opened {

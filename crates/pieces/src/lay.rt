@@ -27,7 +27,8 @@ pub fn lay(work: &mut [u8], addr: usize, bytes: &[u8])
 pub fn lay_selected(work: &mut [u8], addr: usize, bytes: &[u8], rows: &[u8], at: usize)
     requires { ⌜ addr + length (now bytes) ≤ length (now work) ⌝ }
     requires { ⌜ at + row-bytes (size-to-chunks const-persistence-chunk-size (length (now work))) ≤ length (now rows) ⌝ }
-    ensures { λ _. ⌜ now (work .exit) ≡ laid-by-row const-persistence-chunk-size (now (work .entry)) (write-of addr (now (bytes .entry))) (now (rows .entry)) at ⌝ }
+    ensures { λ _. ⌜ now (work .exit) ≡ laid-by-row const-persistence-chunk-size (now (work .entry))
+        (write-of addr (now (bytes .entry))) (now (rows .entry)) at ⌝ }
 {
     let mut j = 0;
     while j < bytes.len() {

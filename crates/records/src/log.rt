@@ -45,7 +45,8 @@ pub fn replay_selected(
 )
     requires { ⌜ Remaining (length (now work)) state (length (now log)) at left ⌝ }
     requires { ⌜ (width ≡ row-bytes (size-to-chunks const-persistence-chunk-size (length (now work)))) × (row + left * width ≤ length (now rows)) ⌝ }
-    ensures { λ _. ⌜ now (work .exit) ≡ replayed-by-rows const-persistence-chunk-size (now (work .entry)) state left (now (log .entry)) at (now (rows .entry)) row ⌝ }
+    ensures { λ _. ⌜ now (work .exit) ≡ replayed-by-rows const-persistence-chunk-size (now (work .entry))
+        state left (now (log .entry)) at (now (rows .entry)) row ⌝ }
 {
     if left == 0 {
         return;

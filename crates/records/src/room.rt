@@ -38,7 +38,8 @@ pub fn room(size: usize, state: State, used: usize, r: Record) -> Answer
 // The write's own step: its bytes go behind the `used` outstanding ones, its record to index count.
 pub fn recorded(state: State, log: &mut [u8], used: usize, addr: usize, bytes: &[u8]) -> State
     requires { ⌜ (state .count < writes-limit) × (used + length (now bytes) ≤ length (now log)) ⌝ }
-    ensures { λ r. ⌜ (r ≡ appended state (record-of (write-of addr (now (bytes .entry))))) × (now (log .exit) ≡ update-bytes (now (log .entry)) used (now (bytes .entry))) ⌝ }
+    ensures { λ r. ⌜ (r ≡ appended state (record-of (write-of addr (now (bytes .entry))))) ×
+        (now (log .exit) ≡ update-bytes (now (log .entry)) used (now (bytes .entry))) ⌝ }
 {
     lay(log, used, bytes);
     let r = Record {

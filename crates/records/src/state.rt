@@ -39,7 +39,8 @@ pub fn within(addr: usize, len: usize, size: usize) -> bool
 
 // Tests what every call is handed: the image's length, the state and the log buffer's length.
 pub fn checked(state: State, image: usize, log: usize) -> Outstanding
-    ensures { λ r. ⌜ (r ≡ cond (sound-for image state log) (Outstanding.Bytes (together (log-records state))) Outstanding.Unsound) × (length (state .records) ≡ writes-limit) ⌝ }
+    ensures { λ r. ⌜ (r ≡ cond (sound-for image state log) (Outstanding.Bytes (together (log-records state))) Outstanding.Unsound)
+        × (length (state .records) ≡ writes-limit) ⌝ }
 {
     if IMAGE_LIMIT < image {
         return Outstanding::Unsound;

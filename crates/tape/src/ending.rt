@@ -37,7 +37,8 @@ fn ending(
     predicted: usize,
     flushing: bool,
 ) -> Answer
-    ensures { λ r. ⌜ (answer-number r ≡ ending-number flushing const-persistence-chunk-size size state log (now (tape .entry)) start predicted) × (length (state .records) ≡ writes-limit) ⌝ }
+    ensures { λ r. ⌜ (answer-number r ≡ ending-number flushing const-persistence-chunk-size size state log (now (tape .entry)) start predicted)
+        × (length (state .records) ≡ writes-limit) ⌝ }
 {
     let Outstanding::Bytes(_) = checked(state, size, log) else {
         return Answer::Refused(Refusal::BadState);
@@ -84,7 +85,10 @@ pub(crate) fn end_epoch(
     predicted: &mut [u8],
     flushing: bool,
 ) -> Ended
-    ensures { λ r. ⌜ Ends flushing (by-tape (desk (now (image .entry)) state (now (log .entry))) start (now (predicted .entry))) (now (tape .entry)) (r .answer) (by-tape (desk (now (image .exit)) (r .state) (now (log .entry))) (r .start) (now (predicted .exit))) ⌝ }
+    ensures { λ r. ⌜ Ends flushing
+        (by-tape (desk (now (image .entry)) state (now (log .entry))) start (now (predicted .entry)))
+        (now (tape .entry)) (r .answer)
+        (by-tape (desk (now (image .exit)) (r .state) (now (log .entry))) (r .start) (now (predicted .exit))) ⌝ }
 {
     let answer = ending(
         state,

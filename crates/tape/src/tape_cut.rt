@@ -23,7 +23,10 @@ pub fn tape_cut(
     start: usize,
     predicted: &mut [u8],
 ) -> AfterTapeCut
-    ensures { λ r. ⌜ TapeCuts (by-tape (desk (now (image .entry)) state (now (log .entry))) start (now (predicted .entry))) (now (tape .entry)) (r .answer) (by-tape (desk (now (image .exit)) (r .state) (now (log .entry))) (r .start) (now (predicted .exit))) ⌝ }
+    ensures { λ r. ⌜ TapeCuts
+        (by-tape (desk (now (image .entry)) state (now (log .entry))) start (now (predicted .entry)))
+        (now (tape .entry)) (r .answer)
+        (by-tape (desk (now (image .exit)) (r .state) (now (log .entry))) (r .start) (now (predicted .exit))) ⌝ }
 {
     let ended = end_epoch(state, image, log, tape, start, predicted, false);
     let answer = ended.answer;

@@ -15,7 +15,10 @@ pub fn tape_flush(
     start: usize,
     predicted: &mut [u8],
 ) -> Ended
-    ensures { λ r. ⌜ TapeFlushes (by-tape (desk (now (image .entry)) state (now (log .entry))) start (now (predicted .entry))) (now (tape .entry)) (r .answer) (by-tape (desk (now (image .exit)) (r .state) (now (log .entry))) (r .start) (now (predicted .exit))) ⌝ }
+    ensures { λ r. ⌜ TapeFlushes
+        (by-tape (desk (now (image .entry)) state (now (log .entry))) start (now (predicted .entry)))
+        (now (tape .entry)) (r .answer)
+        (by-tape (desk (now (image .exit)) (r .state) (now (log .entry))) (r .start) (now (predicted .exit))) ⌝ }
 {
     end_epoch(state, image, log, tape, start, predicted, true)
 }

@@ -45,7 +45,10 @@ pub fn tape_write(
     addr: usize,
     bytes: &[u8],
 ) -> Written
-    ensures { λ r. ⌜ TapeWrites (by-tape (desk (now (image .entry)) state (now (log .entry))) start (now (predicted .entry))) (now (tape .entry)) (write-of addr (now (bytes .entry))) (r .answer) (by-tape (desk (now (image .entry)) (r .state) (now (log .exit))) start (now (predicted .exit))) ⌝ }
+    ensures { λ r. ⌜ TapeWrites
+        (by-tape (desk (now (image .entry)) state (now (log .entry))) start (now (predicted .entry)))
+        (now (tape .entry)) (write-of addr (now (bytes .entry))) (r .answer)
+        (by-tape (desk (now (image .entry)) (r .state) (now (log .exit))) start (now (predicted .exit))) ⌝ }
 {
     let Outstanding::Bytes(used) = checked(state, image.len(), log.len()) else {
         return Written {

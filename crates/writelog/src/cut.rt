@@ -42,7 +42,8 @@ fn rows_right(rows: &[u8], n: usize, size: usize) -> bool
 
 // Makes the replay with the rows the image, and empties the log.
 pub fn cut(state: State, image: &mut [u8], log: &[u8], rows: &[u8]) -> AfterCut
-    ensures { λ r. ⌜ Cuts (desk (now (image .entry)) state (now (log .entry))) (now (rows .entry)) (r .answer) (desk (now (image .exit)) (r .state) (now (log .entry))) ⌝ }
+    ensures { λ r. ⌜ Cuts (desk (now (image .entry)) state (now (log .entry))) (now (rows .entry)) (r .answer)
+        (desk (now (image .exit)) (r .state) (now (log .entry))) ⌝ }
 {
     let size = image.len();
     let Outstanding::Bytes(_) = checked(state, size, log.len()) else {

@@ -18,7 +18,9 @@ pub struct Written {
 
 // Records a write of `bytes` at `addr`, judged by nobody.
 pub fn write(state: State, image: &[u8], log: &mut [u8], addr: usize, bytes: &[u8]) -> Written
-    ensures { λ r. ⌜ Writes (desk (now (image .entry)) state (now (log .entry))) (write-of addr (now (bytes .entry))) (r .answer) (desk (now (image .entry)) (r .state) (now (log .exit))) ⌝ }
+    ensures { λ r. ⌜ Writes (desk (now (image .entry)) state (now (log .entry)))
+        (write-of addr (now (bytes .entry))) (r .answer)
+        (desk (now (image .entry)) (r .state) (now (log .exit))) ⌝ }
 {
     let Outstanding::Bytes(used) = checked(state, image.len(), log.len()) else {
         return Written {
