@@ -25,12 +25,12 @@ abbrev pub touches-chunk : ℕ → Write → ℕ → Bool
 touches-chunk C w c = touches C (w .addr) (length (w .bytes)) c
 
 -- two lists of rows have the same bits in the chunks below K that the writes touch
-abbrev pub agree-on-touched : ℕ → ℕ → List Write → List (List Bool) → List (List Bool) → Type 0
+abbrev pub agree-on-touched : (C K : ℕ) → List Write → (rows rows′ : List (List Bool)) → Type 0
 agree-on-touched C K ws rows rows′ =
     (j c : ℕ) → c < K → touches-chunk C (write-at ws j) c ≡ true → row-bit-at rows j c ≡ row-bit-at rows′ j c
 
 -- every chunk below K that a write touches is kept
-abbrev pub keeps-all : ℕ → ℕ → List Write → List (List Bool) → Type 0
+abbrev pub keeps-all : (C K : ℕ) → List Write → (rows : List (List Bool)) → Type 0
 keeps-all C K ws rows = (j c : ℕ) → c < K → touches-chunk C (write-at ws j) c ≡ true → row-bit-at rows j c ≡ true
 
 -- document 01's K of a view

@@ -11,23 +11,23 @@ use Rattle.cuts.specs.Search.{Finding, none-bad, first-bad, finding, lea
 use Rattle.cuts.specs.Covering.{Test}
 
 -- "With the new write in the log, let n be the number of choice points. The gate tries all m from 0 to 2^n-1."
-abbrev pub gate-numbers : ℕ → AsyncView → Write → ℕ
+abbrev pub gate-numbers : (C : ℕ) → AsyncView → Write → ℕ
 gate-numbers C v w = 2 ^ choice-points C (write v w)
 
 -- number m: the cut image without the new write, older choices as in m, and the one with it
-abbrev pub gate-test : ℕ → Test → AsyncView → Write → ℕ → Bool
+abbrev pub gate-test : (C : ℕ) → Test → AsyncView → Write → (m : ℕ) → Bool
 gate-test C rule v w m = rule (choice-image C v m) (choice-image C (write v w) m)
 
-abbrev pub gate-finding : ℕ → Test → AsyncView → Write → Finding
+abbrev pub gate-finding : (C : ℕ) → Test → AsyncView → Write → Finding
 gate-finding C rule v w = finding (gate-test C rule v w) (gate-numbers C v w)
 
 -- "Admitted: .. working image = the new read image. Denied: .. working image = that bad image."
-abbrev pub gate-image : ℕ → AsyncView → Write → Finding → List ℕ
+abbrev pub gate-image : (C : ℕ) → AsyncView → Write → Finding → List ℕ
 gate-image C v w none-bad = readable (write v w)
 gate-image C v w (first-bad m) = choice-image C (write v w) m
 
 -- a pair that the write could really make: an image that a cut could leave now, and a part-write over it
-abbrev pub could-make : ℕ → AsyncView → Write → (b a : List ℕ) → Type 0
+abbrev pub could-make : (C : ℕ) → AsyncView → Write → (b a : List ℕ) → Type 0
 could-make C v w b a = can-crash C v b × can-result-from-partial-write C a b (w .addr) (w .bytes)
 
 -- what the finding on a rule of two images means

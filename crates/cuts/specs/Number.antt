@@ -8,7 +8,7 @@ use Rattle.pieces.specs.Choice.{touched, points, rows-of}
 use Rattle.cuts.specs.Bits.{view-chunks}
 
 -- the bits f from, f (from + 1), .., n of them, lowest first, put below the bits of hi
-unfoldable pub bits-below : ℕ → (ℕ → Bool) → ℕ → ℕ → ℕ
+unfoldable pub bits-below : (hi : ℕ) (f : ℕ → Bool) (from n : ℕ) → ℕ
 bits-below hi f from zero = hi
 bits-below hi f from (suc n) = bits-below hi f (suc from) n * 2 + cond (f from) 1 0
 

@@ -25,7 +25,7 @@ record Trial : Type 0 where
   rounds : ℕ
   number : ℕ
 
-abbrev trial : ℕ → ℕ → ℕ → ℕ → ℕ → ℕ → ℕ → Trial
+abbrev trial : (image-length log-length work-length addr val0 rounds number : ℕ) → Trial
 trial i l w a v r n = record { image-length = i; log-length = l; work-length = w; addr = a; val0 = v; rounds = r; number = n }
 
 -- the image is zeros, and val1 is 22

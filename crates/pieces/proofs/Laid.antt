@@ -15,7 +15,7 @@ use Rattle.region.specs.Tab.{tab, inside}
 use Rattle.region.proofs.Tab.{length-tab, getD-tab, agree-tab, inside-in, inside-below, inside-above}
 use Rattle.region.specs.Pmemspec.{update-bytes, extract-bytes}
 
-unfoldable pub lay : (ℕ → Bool) → List ℕ → ℕ → List ℕ → List ℕ
+unfoldable pub lay : (keep : ℕ → Bool) (s : List ℕ) (addr : ℕ) (bytes : List ℕ) → List ℕ
 lay keep s addr bytes = tab (λ i. cond (inside addr (length bytes) i && keep i) (getD bytes (i - addr) 0) (getD s i 0)) (length s)
 
 -- a whole write keeps every address
