@@ -1,5 +1,5 @@
--- One write laid over an image by the chunks that a row keeps, where the row lies in a table or is read off a choice number: `apply_write_selective` of
--- pmem_async_spec_t.rs.
+-- Inner: one write laid over an image by the chunks that a row keeps, where the row lies in a table or is read off a choice number:
+-- `apply_write_selective` of pmem_async_spec_t.rs.
 use Prim.Native.Nat.{ℕ}
 use mathlib.Core.List.{List}
 use lib.ListN.{length}
