@@ -12,11 +12,11 @@ use Rattle.region.specs.declared.Answer.the-variants.{Done}
 use Rattle.region.proofs.AnswerLaws.{changed}
 use Rattle.pieces.specs.AsyncSpec.{Write, AsyncView, len, write}
 use Rattle.cuts.proofs.Lengths.{length-flush, length-flush-selective}
-use Rattle.records.specs.State.{record-of}
-use Rattle.records.specs.Desk.{Desk, chunk-size, chunks, view, sound, with-write, settled-desk}
-use Rattle.records.proofs.RoomLaws.{room-done}
-use Rattle.records.proofs.Soundness.{Sound, sound-facts, facts-sound, Room}
-use Rattle.records.proofs.Views.{sized-of-appended, sound-after-recorded, sound-after-settled}
+use Rattle.desk.specs.State.{record-of}
+use Rattle.desk.specs.Desk.{Desk, chunk-size, chunks, view, sound, with-write, settled-desk}
+use Rattle.desk.proofs.RoomLaws.{room-done}
+use Rattle.desk.proofs.Soundness.{Sound, sound-facts, facts-sound, Room}
+use Rattle.desk.proofs.Views.{sized-of-appended, sound-after-recorded, sound-after-settled}
 use Rattle.writelog.specs.Write.{write-number, Writes}
 use Rattle.writelog.specs.Flush.{flush-number, Flushes}
 use Rattle.writelog.specs.Cut.{cut-number, Cuts}

@@ -24,12 +24,12 @@ use Rattle.cuts.proofs.OneMore.{read-of-a-write}
 use Rattle.cuts.proofs.Prophecy.{prophecy-of-nothing}
 use Rattle.cuts.proofs.Shape.{shaped-rows-crash}
 use Rattle.cuts.proofs.Tables.{rows-at-shape}
-use Rattle.records.specs.State.{log-records, writes-of, records-inside, record-of}
-use Rattle.records.specs.Desk.{Desk, chunk-size, chunks, view, sound, opened-desk}
-use Rattle.records.specs.declared.state.Record.{Record}
-use Rattle.records.proofs.RoomLaws.{room-done}
-use Rattle.records.proofs.Soundness.{sound-facts}
-use Rattle.records.proofs.Views.{writes-counted, view-of-recorded, view-of-settled}
+use Rattle.desk.specs.State.{log-records, writes-of, records-inside, record-of}
+use Rattle.desk.specs.Desk.{Desk, chunk-size, chunks, view, sound, opened-desk}
+use Rattle.records.specs.declared.Record.{Record}
+use Rattle.desk.proofs.RoomLaws.{room-done}
+use Rattle.desk.proofs.Soundness.{sound-facts}
+use Rattle.desk.proofs.Views.{writes-counted, view-of-recorded, view-of-settled}
 use Rattle.writelog.specs.Write.{write-number, Writes}
 use Rattle.writelog.specs.Flush.{Flushes}
 use Rattle.writelog.specs.Cut.{desk-rows, cut-number, Cuts}

@@ -9,7 +9,7 @@ use Rattle.cuts.specs.Search.{finding, finding-from}
 use Rattle.bits.specs.Bits.{field, read-field}
 use Rattle.sheet.specs.Sheet.{clause-holds, empty-holds, join, holds, read-tagged, read-entry, read-members, read-rest, read-rule, read-edition}
 use Rattle.sheet.specs.Sheet.{filling, read-filling, read-whole, read-sheet, well-formed, obeys}
-use Rattle.records.specs.State.{together, writes-of, records-inside, sound-for}
+use Rattle.desk.specs.State.{together, writes-of, records-inside, sound-for}
 use Rattle.writelog.specs.Write.{write-number}
 use Rattle.writelog.specs.Flush.{flush-number}
 use Rattle.writelog.specs.Cut.{cut-number}

@@ -11,10 +11,10 @@ use Rattle.region.specs.declared.Answer.the-variants as answer
 use Rattle.region.proofs.AnswerLaws.{done-changed, changed}
 use Rattle.bits.specs.Bits.{byte-bits}
 use Rattle.sheet.specs.Sheet.{obeys}
-use Rattle.records.specs.State.{fresh}
-use Rattle.records.specs.Desk.{Desk, desk}
-use Rattle.records.specs.declared.state.State.{State}
-use Rattle.records.proofs.Soundness.{facts-sound}
+use Rattle.desk.specs.State.{fresh}
+use Rattle.desk.specs.Desk.{Desk, desk}
+use Rattle.desk.specs.declared.state.State.{State}
+use Rattle.desk.proofs.Soundness.{facts-sound}
 use Rattle.writelog.proofs.FlushLaws.{flushes-done}
 use Rattle.gate.specs.Opening.{Opens}
 use Rattle.gate.proofs.Meaning.{admitting}

@@ -8,7 +8,7 @@ use Rattle.region.specs.Answer.{answer-number}
 use Rattle.region.specs.declared.Answer.{Answer}
 use Rattle.region.proofs.AnswerLaws.{answers-by-number, refusals-by-number}
 use Rattle.pieces.specs.AsyncSpec.{Write}
-use Rattle.records.specs.Desk.{Desk}
+use Rattle.desk.specs.Desk.{Desk}
 use Rattle.writelog.specs.Write.{Writes}
 use Rattle.writelog.specs.Read.{Fills, HandsBack}
 use Rattle.writelog.specs.Flush.{Flushes}

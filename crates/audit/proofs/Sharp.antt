@@ -12,9 +12,9 @@ use Rattle.pieces.specs.AsyncSpec.{Write, write-of, flush-selective}
 use Rattle.cuts.proofs.Shape.{shaped-rows-crash}
 use Rattle.cuts.proofs.Tables.{rows-at-shape}
 use Rattle.sheet.specs.Sheet.{allows}
-use Rattle.records.specs.State.{record-of, appended, emptied, fresh}
-use Rattle.records.specs.Desk.{Desk, desk, chunk-size, view}
-use Rattle.records.specs.declared.state.State.{State}
+use Rattle.desk.specs.State.{record-of, appended, emptied, fresh}
+use Rattle.desk.specs.Desk.{Desk, desk, chunk-size, view}
+use Rattle.desk.specs.declared.state.State.{State}
 use Rattle.writelog.specs.Write.{Writes}
 use Rattle.writelog.specs.Flush.{Flushes}
 use Rattle.writelog.specs.Cut.{Cuts}

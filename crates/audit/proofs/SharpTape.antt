@@ -7,8 +7,8 @@ use mathlib.Core.List.{List, [], _∷_}
 use lib.ListN.{length, getD, set}
 use Rattle.region.specs.declared.Answer.the-variants.{Done}
 use Rattle.pieces.specs.AsyncSpec.{AsyncView, Write, write-of}
-use Rattle.records.specs.State.{emptied, fresh}
-use Rattle.records.specs.Desk.{Desk, desk, chunk-size}
+use Rattle.desk.specs.State.{emptied, fresh}
+use Rattle.desk.specs.Desk.{Desk, desk, chunk-size}
 use Rattle.writelog.specs.Flush.{Flushes}
 use Rattle.writelog.specs.Cut.{Cuts}
 use Rattle.writelog.specs.declared.cut.CutAnswer.the-variants.{Kept}

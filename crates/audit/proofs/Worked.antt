@@ -9,9 +9,9 @@ use Rattle.region.specs.Limits.{writes-limit, log-limit}
 use Rattle.region.specs.declared.Answer.the-variants.{Done, Refused}
 use Rattle.region.specs.declared.Refusal.the-variants.{OutOfRange}
 use Rattle.pieces.specs.AsyncSpec.{Write, write-of}
-use Rattle.records.specs.State.{record-of, appended, emptied, fresh}
-use Rattle.records.specs.Desk.{Desk, desk, chunk-size}
-use Rattle.records.specs.declared.state.State.{State}
+use Rattle.desk.specs.State.{record-of, appended, emptied, fresh}
+use Rattle.desk.specs.Desk.{Desk, desk, chunk-size}
+use Rattle.desk.specs.declared.state.State.{State}
 use Rattle.writelog.specs.Write.{Writes}
 use Rattle.writelog.specs.Cut.{Cuts}
 use Rattle.writelog.specs.declared.cut.CutAnswer.the-variants.{Kept}

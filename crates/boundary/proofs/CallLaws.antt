@@ -11,8 +11,8 @@ use borrow.Author.Tests.{eqb-true, eq-eqb, ne-eqb}
 use Rattle.region.specs.Limits.{writes-limit}
 use Rattle.region.specs.Answer.{if-done}
 use Rattle.region.proofs.Booleans.{cond-when, cond-unless}
-use Rattle.records.specs.Desk.{Desk, desk}
-use Rattle.records.specs.declared.state.State.{State}
+use Rattle.desk.specs.Desk.{Desk, desk}
+use Rattle.desk.specs.declared.state.State.{State}
 use Rattle.tape.specs.Memory.{by-tape}
 use Rattle.boundary.specs.Words.{state-words, state-of, words-of}
 use Rattle.boundary.specs.Lent.{Lent, lent, lent-by-tape, Crossing, plainly, on-tape, at-desk, Does}

@@ -6,8 +6,8 @@ use mathlib.Core.List.{List}
 use Rattle.region.specs.Answer.{Report, answer-number, if-done}
 use Rattle.region.specs.declared.Answer.{Answer}
 use Rattle.pieces.specs.AsyncSpec.{Write, readable}
-use Rattle.records.specs.Desk.{Desk, desk, view}
-use Rattle.records.specs.declared.state.State.{State}
+use Rattle.desk.specs.Desk.{Desk, desk, view}
+use Rattle.desk.specs.declared.state.State.{State}
 use Rattle.writelog.specs.Write.{Writes}
 use Rattle.writelog.specs.Read.{read-number, Fills}
 use Rattle.writelog.specs.Flush.{Flushes}

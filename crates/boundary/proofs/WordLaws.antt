@@ -7,9 +7,9 @@ use mathlib.Core.List.{List, [], _∷_, _++_}
 use lib.ListN.{length, getD, take, drop, set, length-set, length-drop}
 use lib.Seq.{take-suc, take-suc-set, take-all, getD-drop}
 use Rattle.region.specs.Limits.{writes-limit}
-use Rattle.records.specs.State.{no-record}
-use Rattle.records.specs.declared.state.Record.{Record}
-use Rattle.records.specs.declared.state.State.{State}
+use Rattle.desk.specs.State.{no-record}
+use Rattle.records.specs.declared.Record.{Record}
+use Rattle.desk.specs.declared.state.State.{State}
 use Rattle.boundary.specs.Words.{state-words, records-of, record-words, state-of, words-of}
 
 records-back : (rs : List Record) → records-of (record-words rs) ≡ rs

@@ -4,7 +4,7 @@ use Prim.Native.Nat.{ℕ}
 use mathlib.Core.Path.{_≡_}
 use mathlib.Core.List.{List}
 use Rattle.pieces.specs.AsyncSpec.{Write}
-use Rattle.records.specs.Desk.{with-write, opened-desk}
+use Rattle.desk.specs.Desk.{with-write, opened-desk}
 use Rattle.gate.specs.Opening.{open-number}
 use Rattle.gate.specs.Judgement.{judgement, judgement-work, judge-report, judge-number}
 use Rattle.boundary.specs.Words.{reported}

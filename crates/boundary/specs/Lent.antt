@@ -6,7 +6,7 @@ use mathlib.Core.List.{List}
 use lib.Dec.{eqb}
 use lib.ListN.{length}
 use Rattle.region.specs.Answer.{unless, if-done}
-use Rattle.records.specs.Desk.{Desk, desk}
+use Rattle.desk.specs.Desk.{Desk, desk}
 use Rattle.tape.specs.Memory.{TapeDesk, by-tape}
 use Rattle.boundary.specs.Words.{state-words, state-of, words-of}
 

@@ -5,7 +5,7 @@ use mathlib.Core.Path.{_≡_}
 use mathlib.Core.List.{List}
 use Rattle.region.specs.Answer.{if-done}
 use Rattle.pieces.specs.AsyncSpec.{Write, readable}
-use Rattle.records.specs.Desk.{view, with-write, settled-desk}
+use Rattle.desk.specs.Desk.{view, with-write, settled-desk}
 use Rattle.writelog.specs.Write.{write-number}
 use Rattle.writelog.specs.Read.{read-number}
 use Rattle.writelog.specs.Flush.{flush-number}

@@ -5,7 +5,7 @@ use mathlib.Core.Path.{_≡_}
 use mathlib.Core.List.{List}
 use Rattle.region.specs.Answer.{if-done}
 use Rattle.pieces.specs.AsyncSpec.{Write, readable}
-use Rattle.records.specs.Desk.{view}
+use Rattle.desk.specs.Desk.{view}
 use Rattle.writelog.specs.Cut.{kept-by-rows}
 use Rattle.epochs.specs.Foretold.{predicted-now}
 use Rattle.tape.specs.Write.{tape-write-number, tape-written}

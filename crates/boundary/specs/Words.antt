@@ -5,8 +5,8 @@ use mathlib.Core.List.{List, [], _∷_}
 use lib.ListN.{getD, drop}
 use Rattle.region.specs.Limits.{writes-limit}
 use Rattle.region.specs.Answer.{Report}
-use Rattle.records.specs.declared.state.Record.{Record}
-use Rattle.records.specs.declared.state.State.{State}
+use Rattle.records.specs.declared.Record.{Record}
+use Rattle.desk.specs.declared.state.State.{State}
 
 abbrev pub state-words : ℕ
 state-words = 1 + 2 * writes-limit

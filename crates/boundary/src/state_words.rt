@@ -1,7 +1,7 @@
 // The state as words: the count, then address and length of each record. `loaded` and `stored` undo
 // each other on a state of the right length (proofs/WordLaws.antt).
-use records::state::Record;
-use records::state::State;
+use desk::state::State;
+use records::Record;
 use region::WRITES_LIMIT;
 ghost use mathlib.Core.Path.{_≡_};
 ghost use lib.ListN.{length};

@@ -14,15 +14,15 @@ use Rattle.pieces.specs.Choice.{touched, points}
 use Rattle.pieces.specs.AsyncSpec.{Write, write}
 use Rattle.cuts.specs.Number.{choice-points}
 use Rattle.cuts.proofs.Choices.{points-of-one-more}
-use Rattle.records.specs.State.{log-records, together, writes-of, records-inside}
-use Rattle.records.specs.Desk.{Desk, chunk-size, view, sound}
-use Rattle.records.specs.Log.{last-records, Remaining}
-use Rattle.records.specs.declared.state.Record.{Record}
-use Rattle.records.specs.declared.state.State.{State}
-use Rattle.records.proofs.Records.{next-and-rest}
-use Rattle.records.proofs.Walk.{oldest}
-use Rattle.records.proofs.KeptLaws.{touched-le}
-use Rattle.records.proofs.Soundness.{sound-facts}
+use Rattle.desk.specs.State.{log-records, together, writes-of, records-inside}
+use Rattle.desk.specs.Desk.{Desk, chunk-size, view, sound}
+use Rattle.desk.specs.Log.{last-records, Remaining}
+use Rattle.records.specs.declared.Record.{Record}
+use Rattle.desk.specs.declared.state.State.{State}
+use Rattle.desk.proofs.Records.{next-and-rest}
+use Rattle.desk.proofs.Walk.{oldest}
+use Rattle.desk.proofs.KeptLaws.{touched-le}
+use Rattle.desk.proofs.Soundness.{sound-facts}
 use Rattle.engine.specs.Count.{record-points}
 
 pub points-by-records : (C : ℕ) (rs : List Record) (log : List ℕ) → together rs ≤ length log → points C (writes-of rs log) ≡ record-points C rs

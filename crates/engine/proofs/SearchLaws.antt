@@ -18,7 +18,7 @@ use Rattle.cuts.proofs.Search.{finding-at-start, finding-goes-on, finding-stops
 use Rattle.cuts.proofs.Gate.{last-trial-is-the-read-image}
 use Rattle.sheet.specs.Sheet.{obeys, allows}
 use Rattle.sheet.proofs.Laws.{before-unseen}
-use Rattle.records.specs.Desk.{Desk, chunk-size, view}
+use Rattle.desk.specs.Desk.{Desk, chunk-size, view}
 use Rattle.engine.specs.declared.search.Outcome.the-variants.{AllGood, FirstBad}
 use Rattle.engine.specs.Search.{Ready, Searches, trial-image, sheet-finding, sheet-image}
 use Rattle.engine.proofs.PointLaws.{points-with-a-write}

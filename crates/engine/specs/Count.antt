@@ -8,10 +8,10 @@ use lib.ListN.{length}
 use Rattle.region.specs.Limits.{image-limit, writes-limit, log-limit}
 use Rattle.pieces.specs.AsyncSpec.{size-to-chunks, flush-writes-selective}
 use Rattle.pieces.specs.Choice.{touched, rows-of}
-use Rattle.records.specs.State.{log-records, together, records-inside}
-use Rattle.records.specs.Log.{last-writes}
-use Rattle.records.specs.declared.state.Record.{Record}
-use Rattle.records.specs.declared.state.State.{State}
+use Rattle.desk.specs.State.{log-records, together, records-inside}
+use Rattle.desk.specs.Log.{last-writes}
+use Rattle.records.specs.declared.Record.{Record}
+use Rattle.desk.specs.declared.state.State.{State}
 
 unfoldable pub record-points : ℕ → List Record → ℕ
 record-points C [] = 0

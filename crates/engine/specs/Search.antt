@@ -12,8 +12,8 @@ use Rattle.cuts.specs.Number.{choice-image}
 use Rattle.cuts.specs.Search.{Finding, none-bad, first-bad}
 use Rattle.cuts.specs.Gate.{gate-finding, gate-image}
 use Rattle.sheet.specs.Sheet.{obeys}
-use Rattle.records.specs.State.{log-records}
-use Rattle.records.specs.Desk.{Desk, chunk-size, view, sound}
+use Rattle.desk.specs.State.{log-records}
+use Rattle.desk.specs.Desk.{Desk, chunk-size, view, sound}
 use Rattle.engine.specs.Count.{record-points}
 use Rattle.engine.specs.declared.search.Outcome.{Outcome}
 use Rattle.engine.specs.declared.search.Outcome.the-variants.{AllGood, FirstBad}

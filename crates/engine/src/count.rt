@@ -1,10 +1,10 @@
 // The choice points of the log.
+use desk::state::State;
 use pieces::points::touched;
-use records::state::Record;
-use records::state::State;
+use records::Record;
 ghost use mathlib.Core.Path.{_≡_};
 ghost use Rattle.region.specs.Limits.{const-persistence-chunk-size};
-ghost use Rattle.records.specs.State.{log-records};
+ghost use Rattle.desk.specs.State.{log-records};
 ghost use Rattle.engine.specs.Count.{record-points, Countable};
 
 pub fn log_points(state: State) -> usize

@@ -1,13 +1,13 @@
 // The search: all choice numbers from 0 on, to the first whose image breaks the sheet.
 use crate::trial::trial;
-use records::state::State;
+use desk::state::State;
 use sheet::Judged;
 use sheet::judge;
 ghost use mathlib.Core.Path.{_≡_};
 ghost use lib.ListN.{length};
 ghost use Rattle.sheet.specs.Sheet.{allows};
 ghost use Rattle.pieces.specs.AsyncSpec.{write-of};
-ghost use Rattle.records.specs.Desk.{desk};
+ghost use Rattle.desk.specs.Desk.{desk};
 ghost use Rattle.engine.specs.Search.{Ready, Searches};
 
 pub enum Outcome {

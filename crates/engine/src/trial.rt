@@ -1,17 +1,17 @@
 // One trial: the image that a choice number leaves, with the new write in the log.
+use desk::state::State;
 use pieces::lay::lay;
 use pieces::lay::lay_chosen;
 use pieces::points::touched;
-use records::state::Record;
-use records::state::State;
+use records::Record;
 ghost use mathlib.Core.Path.{_≡_};
 ghost use Prim.Native.Nat.{_+_, _≤_};
 ghost use lib.ListN.{length};
 ghost use Rattle.region.specs.Limits.{const-persistence-chunk-size, points-limit};
 ghost use Rattle.pieces.specs.AsyncSpec.{write-of};
 ghost use Rattle.pieces.specs.Choice.{touched};
-ghost use Rattle.records.specs.Desk.{desk};
-ghost use Rattle.records.specs.Log.{last-records, Remaining};
+ghost use Rattle.desk.specs.Desk.{desk};
+ghost use Rattle.desk.specs.Log.{last-records, Remaining};
 ghost use Rattle.engine.specs.Count.{record-points, replayed-by-choice};
 ghost use Rattle.engine.specs.Search.{Ready, trial-image};
 

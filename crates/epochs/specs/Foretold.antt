@@ -6,7 +6,7 @@ use lib.ListN.{length}
 use Rattle.region.specs.View.{PersistentMemoryRegionView}
 use Rattle.pieces.specs.AsyncSpec.{AsyncView, len, size-to-chunks}
 use Rattle.cuts.specs.Prophecy.{prophecy}
-use Rattle.records.specs.Desk.{Desk, chunk-size, view}
+use Rattle.desk.specs.Desk.{Desk, chunk-size, view}
 use Rattle.epochs.specs.Epoch.{flush-foretold, epoch-rows}
 
 abbrev pub foretold : (C : ℕ) (tape : List ℕ) (start : ℕ) → AsyncView → PersistentMemoryRegionView

@@ -4,8 +4,8 @@ use mathlib.Core.Path.{_≡_}
 use mathlib.Core.List.{List}
 use lib.ListN.{length}
 use Rattle.region.specs.Limits.{image-limit}
-use Rattle.records.specs.Desk.{Desk, chunks}
-use Rattle.records.specs.Log.{Remaining}
+use Rattle.desk.specs.Desk.{Desk, chunks}
+use Rattle.desk.specs.Log.{Remaining}
 use Rattle.epochs.specs.Epoch.{row-place}
 
 pub record Predictable (d : Desk) (tape : List ℕ) (start predicted-length : ℕ) : Type 0 where

@@ -1,14 +1,14 @@
 // The predicted image, computed from image, log and rows each time, whatever the buffer held.
 use crate::epoch::flush_foretold;
+use desk::log::replay_selected;
+use desk::log::replay_whole;
+use desk::state::State;
 use pieces::lay::lay;
 use pieces::rows::row_bytes;
-use records::log::replay_selected;
-use records::log::replay_whole;
-use records::state::State;
 use region::chunks::size_to_chunks;
 ghost use mathlib.Core.Path.{_≡_};
 ghost use lib.ListN.{length};
-ghost use Rattle.records.specs.Desk.{desk};
+ghost use Rattle.desk.specs.Desk.{desk};
 ghost use Rattle.epochs.specs.Foretold.{predicted-now};
 ghost use Rattle.epochs.specs.Predictable.{Predictable};
 

@@ -16,7 +16,7 @@ use Rattle.region.specs.declared.Answer.the-variants as answers
 use Rattle.region.proofs.AnswerLaws.{refusals-by-number, done-changed, refused-left, refusal-not-done, passed, go-on, stop}
 use Rattle.region.proofs.Booleans.{both, cond-when, cond-unless}
 use Rattle.sheet.specs.Sheet.{well-formed, obeys}
-use Rattle.records.specs.Desk.{Desk}
+use Rattle.desk.specs.Desk.{Desk}
 use Rattle.gate.specs.Opening.{open-number, Opens}
 use Rattle.gate.proofs.Meaning.{denial-is-no-refusal}
 use Rattle.gate.proofs.OpeningLaws.{open-good, open-broken}

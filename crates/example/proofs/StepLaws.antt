@@ -20,13 +20,13 @@ use Rattle.pieces.specs.AsyncSpec.{AsyncView, Write, write, readable}
 use Rattle.pieces.specs.Choice.{points}
 use Rattle.sheet.specs.Sheet.{obeys, allows}
 use Rattle.sheet.proofs.Laws.{obeyed-is-formed}
-use Rattle.records.specs.State.{log-records, together, writes-of, record-of}
-use Rattle.records.specs.Desk.{Desk, chunk-size, view, with-write, settled-desk}
+use Rattle.desk.specs.State.{log-records, together, writes-of, record-of}
+use Rattle.desk.specs.Desk.{Desk, chunk-size, view, with-write, settled-desk}
 use Rattle.writelog.specs.Flush.{Flushes}
-use Rattle.records.specs.declared.state.Record.{Record}
-use Rattle.records.proofs.Soundness.{Sound, facts-sound, Room}
+use Rattle.records.specs.declared.Record.{Record}
+use Rattle.desk.proofs.Soundness.{Sound, facts-sound, Room}
 use Rattle.writelog.proofs.FlushLaws.{flush-sound}
-use Rattle.records.proofs.Views.{together-last, records-of-appended, sized-of-appended, view-of-recorded, sound-after-recorded, sound-after-settled}
+use Rattle.desk.proofs.Views.{together-last, records-of-appended, sized-of-appended, view-of-recorded, sound-after-recorded, sound-after-settled}
 use Rattle.gate.specs.Judgement.{gate-points, Gates}
 use Rattle.gate.specs.Meaning.{Fits, could-leave}
 use Rattle.gate.specs.declared.Verdict.{Verdict}

@@ -6,7 +6,7 @@ use mathlib.Core.List.{List}
 use lib.ListN.{length, set}
 use Rattle.region.specs.Limits.{image-limit, writes-limit, log-limit}
 use Rattle.sheet.specs.Sheet.{obeys}
-use Rattle.records.specs.Desk.{Desk}
+use Rattle.desk.specs.Desk.{Desk}
 use Rattle.example.specs.Valid.{app-valid}
 use Rattle.example.specs.Run.{if-any-round, log-after-round}
 use Rattle.example.specs.declared.RunAnswer.{RunAnswer}

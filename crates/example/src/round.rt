@@ -1,13 +1,13 @@
 // A round of the example: two pairs of writes through the gate, each pair flushed.
 use crate::RunAnswer;
+use desk::state::State;
 use gate::Verdict;
 use gate::gate::gate;
-use records::state::State;
 use region::Answer;
 use writelog::flush::flush;
 ghost use mathlib.Core.Path.{_≡_};
 ghost use Rattle.region.specs.Answer.{answer-number};
-ghost use Rattle.records.specs.Desk.{desk};
+ghost use Rattle.desk.specs.Desk.{desk};
 ghost use Rattle.gate.specs.Judgement.{verdict-report};
 ghost use Rattle.example.specs.Run.{run-answer-number};
 ghost use Rattle.example.specs.Steps.{Under, Goes};

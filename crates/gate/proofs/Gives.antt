@@ -15,10 +15,10 @@ use Rattle.region.proofs.AnswerLaws.{answers-by-number, changed, left, refusal-
 use Rattle.pieces.specs.AsyncSpec.{Write, write, readable}
 use Rattle.cuts.proofs.Always.{cut-of-nothing}
 use Rattle.sheet.specs.Sheet.{allows}
-use Rattle.records.specs.State.{record-of, room-number}
-use Rattle.records.specs.Desk.{Desk, chunk-size, view, with-write, settled-desk, opened-desk}
-use Rattle.records.proofs.Soundness.{Sound, sound-facts, Room}
-use Rattle.records.proofs.Views.{view-of-recorded, sound-after-recorded, sized-of-appended, view-of-settled, sound-after-settled}
+use Rattle.desk.specs.State.{record-of, room-number}
+use Rattle.desk.specs.Desk.{Desk, chunk-size, view, with-write, settled-desk, opened-desk}
+use Rattle.desk.proofs.Soundness.{Sound, sound-facts, Room}
+use Rattle.desk.proofs.Views.{view-of-recorded, sound-after-recorded, sized-of-appended, view-of-settled, sound-after-settled}
 use Rattle.gate.specs.declared.Verdict.{Verdict}
 use Rattle.gate.specs.declared.Verdict.the-variants.{Admitted, Refused}
 use Rattle.gate.specs.Opening.{Opens}

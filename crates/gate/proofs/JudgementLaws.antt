@@ -18,9 +18,9 @@ use Rattle.region.proofs.Booleans.{cond-when, cond-unless, and-unless, both, bo
 use Rattle.cuts.specs.Search as search
 use Rattle.sheet.specs.Sheet.{well-formed}
 use Rattle.pieces.specs.AsyncSpec.{Write}
-use Rattle.records.specs.State.{record-of}
-use Rattle.records.specs.Desk.{Desk, sound, with-write}
-use Rattle.records.proofs.RoomLaws.{room-done, room-there}
+use Rattle.desk.specs.State.{record-of}
+use Rattle.desk.specs.Desk.{Desk, sound, with-write}
+use Rattle.desk.proofs.RoomLaws.{room-done, room-there}
 use Rattle.engine.specs.declared.search.Outcome.{Outcome}
 use Rattle.engine.specs.declared.search.Outcome.the-variants.{AllGood, FirstBad}
 use Rattle.engine.specs.Search.{searched, sheet-finding, Searches}

@@ -16,7 +16,7 @@ use Rattle.cuts.specs.Gate.{gate-finding, judges-images}
 use Rattle.cuts.proofs.Gate.{gate-judges-images}
 use Rattle.sheet.specs.Sheet.{obeys, allows}
 use Rattle.sheet.proofs.Laws.{before-unseen}
-use Rattle.records.specs.Desk.{Desk, chunk-size, view, with-write}
+use Rattle.desk.specs.Desk.{Desk, chunk-size, view, with-write}
 use Rattle.engine.specs.Search.{sheet-finding, sheet-image}
 use Rattle.gate.specs.declared.Verdict.{Verdict}
 use Rattle.gate.specs.declared.Verdict.the-variants.{Admitted, Denied, Refused}

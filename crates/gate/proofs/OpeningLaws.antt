@@ -16,9 +16,9 @@ use Rattle.region.proofs.AnswerLaws.{done-changed, refused-left, passed}
 use Rattle.region.proofs.Booleans.{cond-when, cond-unless, and-unless, both, both-true}
 use Rattle.sheet.specs.Sheet.{well-formed, allows}
 use Rattle.sheet.proofs.Laws.{obeyed-is-formed}
-use Rattle.records.specs.State.{fresh}
-use Rattle.records.specs.Desk.{Desk, desk, opened-desk}
-use Rattle.records.specs.declared.state.State.{State}
+use Rattle.desk.specs.State.{fresh}
+use Rattle.desk.specs.Desk.{Desk, desk, opened-desk}
+use Rattle.desk.specs.declared.state.State.{State}
 use Rattle.gate.specs.Meaning.{Openable}
 use Rattle.gate.specs.Opening.{open-number, Opens}
 

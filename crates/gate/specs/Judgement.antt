@@ -14,8 +14,8 @@ use Rattle.pieces.specs.AsyncSpec.{Write, write}
 use Rattle.cuts.specs.Number.{choice-points}
 use Rattle.cuts.specs.Search as search
 use Rattle.sheet.specs.Sheet.{well-formed}
-use Rattle.records.specs.State.{log-records, together, record-of, room-number}
-use Rattle.records.specs.Desk.{Desk, chunk-size, view, sound, with-write}
+use Rattle.desk.specs.State.{log-records, together, record-of, room-number}
+use Rattle.desk.specs.Desk.{Desk, chunk-size, view, sound, with-write}
 use Rattle.engine.specs.Search.{sheet-finding, sheet-image}
 use Rattle.gate.specs.declared.Verdict.{Verdict}
 use Rattle.gate.specs.declared.Verdict.the-variants.{Admitted, Denied, Refused}

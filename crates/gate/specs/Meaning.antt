@@ -12,8 +12,8 @@ use Rattle.pieces.specs.AsyncSpec.{Write, write, readable, can-crash}
 use Rattle.cuts.specs.Search.{least-bad}
 use Rattle.cuts.specs.Gate.{gate-numbers}
 use Rattle.sheet.specs.Sheet.{well-formed, allows}
-use Rattle.records.specs.State.{log-records, together}
-use Rattle.records.specs.Desk.{Desk, chunk-size, view, sound}
+use Rattle.desk.specs.State.{log-records, together}
+use Rattle.desk.specs.Desk.{Desk, chunk-size, view, sound}
 use Rattle.engine.specs.Search.{trial-image}
 use Rattle.gate.specs.declared.Verdict.{Verdict}
 use Rattle.gate.specs.declared.Verdict.the-variants.{Admitted, Denied}

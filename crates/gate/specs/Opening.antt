@@ -10,7 +10,7 @@ use Rattle.region.specs.Limits.{image-limit, log-limit}
 use Rattle.region.specs.Answer.{answer-number, unless, if-done}
 use Rattle.region.specs.declared.Answer.{Answer}
 use Rattle.sheet.specs.Sheet.{well-formed, allows}
-use Rattle.records.specs.Desk.{Desk, opened-desk}
+use Rattle.desk.specs.Desk.{Desk, opened-desk}
 
 module _ (d : Desk) (sheet : List ℕ) where
   -- "Opening compares the image with itself", as a later edition's rule of two images asks

@@ -1,13 +1,13 @@
 // The gate.
 use crate::Verdict;
 use crate::judge::decide;
-use records::room::recorded;
-use records::state::Outstanding;
-use records::state::State;
-use records::state::checked;
+use desk::room::recorded;
+use desk::state::Outstanding;
+use desk::state::State;
+use desk::state::checked;
 use region::Refusal;
 ghost use Rattle.pieces.specs.AsyncSpec.{write-of};
-ghost use Rattle.records.specs.Desk.{desk};
+ghost use Rattle.desk.specs.Desk.{desk};
 ghost use Rattle.gate.specs.Judgement.{Gates};
 
 pub struct Gated {

@@ -1,14 +1,14 @@
 // The judging call, and the judging that it shares with the gate.
 use crate::Verdict;
+use desk::room::room;
+use desk::state::Outstanding;
+use desk::state::State;
+use desk::state::checked;
 use engine::count::log_points;
 use engine::search::Outcome;
 use engine::search::search;
 use pieces::points::touched;
-use records::room::room;
-use records::state::Outstanding;
-use records::state::Record;
-use records::state::State;
-use records::state::checked;
+use records::Record;
 use region::Answer;
 use region::POINTS_LIMIT;
 use region::Refusal;
@@ -17,7 +17,7 @@ ghost use mathlib.Core.Path.{_≡_};
 ghost use lib.ListN.{length};
 ghost use Rattle.sheet.specs.Sheet.{well-formed};
 ghost use Rattle.pieces.specs.AsyncSpec.{write-of};
-ghost use Rattle.records.specs.Desk.{desk};
+ghost use Rattle.desk.specs.Desk.{desk};
 ghost use Rattle.gate.specs.Judgement.{Fitting, Checked, Weighs, Judges};
 
 // Is the sheet well-formed? That is so for any image or none.

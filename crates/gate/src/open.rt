@@ -1,12 +1,12 @@
 // Opening.
-use records::state::State;
-use records::state::fresh;
+use desk::state::State;
+use desk::state::fresh;
 use region::Answer;
 use region::IMAGE_LIMIT;
 use region::LOG_LIMIT;
 use region::Refusal;
 use sheet::Judged;
-ghost use Rattle.records.specs.Desk.{desk};
+ghost use Rattle.desk.specs.Desk.{desk};
 ghost use Rattle.gate.specs.Opening.{Opens};
 
 pub struct Opened {

@@ -16,10 +16,10 @@ use Rattle.pieces.specs.AsyncSpec.{Write}
 use Rattle.pieces.specs.Rows.{rows-right, rows-filled}
 use Rattle.cuts.specs.Search as search
 use Rattle.sheet.specs.Sheet.{well-formed, allows}
-use Rattle.records.specs.State.{log-records, together, record-of, room-number}
-use Rattle.records.specs.Desk.{Desk, chunks, sound}
-use Rattle.records.specs.declared.state.Record.{Record}
-use Rattle.records.specs.declared.state.State.{State}
+use Rattle.desk.specs.State.{log-records, together, record-of, room-number}
+use Rattle.desk.specs.Desk.{Desk, chunks, sound}
+use Rattle.records.specs.declared.Record.{Record}
+use Rattle.desk.specs.declared.state.State.{State}
 use Rattle.writelog.specs.Write.{write-number}
 use Rattle.writelog.specs.Read.{asked-number, read-number}
 use Rattle.writelog.specs.Flush.{flush-number}

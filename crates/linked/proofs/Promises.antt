@@ -7,9 +7,9 @@ use mathlib.Core.List.{List}
 use Rattle.region.specs.Answer.{Report, answer-number}
 use Rattle.region.specs.declared.Answer.{Answer}
 use Rattle.pieces.specs.AsyncSpec.{Write, readable}
-use Rattle.records.specs.State.{record-of}
-use Rattle.records.specs.Desk.{Desk, view}
-use Rattle.records.proofs.Views.{sized-of-appended}
+use Rattle.desk.specs.State.{record-of}
+use Rattle.desk.specs.Desk.{Desk, view}
+use Rattle.desk.proofs.Views.{sized-of-appended}
 use Rattle.writelog.specs.Write.{Writes}
 use Rattle.writelog.specs.Read.{read-number, Fills}
 use Rattle.writelog.specs.Flush.{Flushes}

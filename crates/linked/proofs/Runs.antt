@@ -13,7 +13,7 @@ use Rattle.region.specs.declared.Refusal.{Refusal}
 use Rattle.region.proofs.AnswerLaws.{answers-by-number, refusal-not-done, done-changed, refused-left}
 use Rattle.pieces.specs.AsyncSpec.{Write}
 use Rattle.cuts.specs.Packed.{are-bytes}
-use Rattle.records.specs.Desk.{Desk, settled-desk}
+use Rattle.desk.specs.Desk.{Desk, settled-desk}
 use Rattle.writelog.specs.Cut.{cut-report}
 use Rattle.writelog.specs.declared.cut.CutAnswer.{CutAnswer}
 use Rattle.writelog.specs.declared.cut.CutAnswer.the-variants as cut-answer

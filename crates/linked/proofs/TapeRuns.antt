@@ -5,7 +5,7 @@ use mathlib.Core.List.{List}
 use lib.ListN.{length}
 use Rattle.region.specs.Limits.{log-limit}
 use Rattle.pieces.specs.AsyncSpec.{Write}
-use Rattle.records.specs.Desk.{chunk-size}
+use Rattle.desk.specs.Desk.{chunk-size}
 use Rattle.gate.specs.Meaning.{could-be-left}
 use Rattle.tape.specs.Memory.{TapeDesk}
 use Rattle.boundary.specs.Lent.{Lent, desk-of, TapeLent, lent-by-tape, tape-desk-of, plainly, on-tape}

@@ -28,7 +28,7 @@ use denote.Ref.{RefT}
 use denote.Slice.{sliceVal, MutSlice, ShrSlice, Room, finally}
 use denote.Steps.{owned, peeks}
 use Rattle.region.specs.Limits.{writes-limit}
-use Rattle.records.specs.declared.state.Record.{Record}
+use Rattle.records.specs.declared.Record.{Record}
 use Rattle.records.proofs.RecordRow.{R, machine, val, vals, tells, makes, lawful}
 
 -- the list of a log's records as an array, and its machine type and value

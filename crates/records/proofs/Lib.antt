@@ -1,13 +1,5 @@
--- The laws of `records`' definitions. `Records` takes the records of a log one at a time; `Soundness` takes the test of refusal 1 apart and puts it
--- together, and `RoomLaws` those for one record more; `Views` has what a recorded write and an emptied log do to the view; `Walk` has a step of each
--- replay, and `KeptLaws` a turn of the kept count. `Branch`, `RecordRow` and `LentRecords` are what the walks over a lent list of records share; none of
--- the three knows the state.
-pub mod Records
-pub mod Soundness
-pub mod RoomLaws
-pub mod Views
-pub mod Walk
-pub mod KeptLaws
+-- What the walks over a lent list of records share: the rules of a walk (`Branch`), a record in memory (`RecordRow`), and a local array of records that is
+-- lent and taken back (`LentRecords`).
 pub mod Branch
 pub mod RecordRow
 pub mod LentRecords

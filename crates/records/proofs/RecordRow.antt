@@ -17,10 +17,10 @@ use types.Run.{Rv, lit, and-then, no-more}
 use denote.RattleType.{RattleType}
 use denote.Laws.{Is, Tells, Makes, Copy, Lawful}
 use denote.Struct.Laws as LL
-use Rattle.records.specs.State.{no-record}
-use Rattle.records.specs.declared.state.Record.{Record}
-use Rattle.records.proofs.state.Record as T
-use Rattle.records.proofs.state.Record.Laws as T′
+use Rattle.records.specs.Record.{no-record}
+use Rattle.records.specs.declared.Record.{Record}
+use Rattle.records.proofs.Record as T
+use Rattle.records.proofs.Record.Laws as T′
 
 abbrev pub R : RattleType
 R = T.the-row

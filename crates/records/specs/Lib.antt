@@ -1,5 +1,2 @@
--- The definitions that `records`' contracts cite: `State` says what the state means, `Desk` what the memory of a desk
--- does, `Log` what a walk over the log has before it and leaves.
-pub mod State
-pub mod Desk
-pub mod Log
+-- The definition that `records`' contracts cite.
+pub mod Record

@@ -1,8 +1,9 @@
-// The state, its log as a list of write records, and the walks over them: selective replay, whole
-// replay and the kept count. `checked` is the test that every call makes of the state it is handed.
-// Each is proved to give exactly what specs/ says (document 01, "Region, chunks, log"). Nothing is
-// assumed.
-pub mod log;
+// The records of a log's writes, as a list: where a write begins and how many bytes it has. They know
+// of no state, so that whatever else a state comes to hold leaves them as they are. Each function is
+// proved to give exactly what its contract says. Nothing is assumed.
+pub struct Record {
+    pub addr: usize,
+    pub len: usize,
+}
+
 pub mod record_list;
-pub mod room;
-pub mod state;

@@ -1,14 +1,12 @@
 // The log as a lent list of write records: a thin lookup and a thin append over a slice of structs,
-// over them the same of an array by value, and over those of a state. The borrow checker covers no
-// slice of structs, so the first four are proved by hand, each a walk of its MIR. They know of no
-// state: whatever else it comes to hold, only the last two see it, and those are covered.
-use crate::state::Record;
-use crate::state::State;
+// and over them the same of an array by value. The borrow checker covers no slice of structs, so
+// these are proved by hand, each a walk of its MIR; whoever calls the last two is covered.
+use crate::Record;
 use region::WRITES_LIMIT;
 ghost use mathlib.Core.Path.{_≡_};
 ghost use lib.Dec.{ltb};
 ghost use lib.ListN.{length, getD, set};
-ghost use Rattle.records.specs.State.{no-record, with-record};
+ghost use Rattle.records.specs.Record.{no-record};
 
 // The record at index i, or the zero record where the list has none.
 pub fn lookup(records: &[Record], i: usize) -> Record
@@ -32,36 +30,17 @@ pub fn append(records: &mut [Record], at: usize, r: Record) -> bool
 }
 
 // The record at index i, or the zero record past the array's last: the local array is lent to `lookup`.
-fn record_in(records: [Record; WRITES_LIMIT], i: usize) -> Record
+pub fn record_in(records: [Record; WRITES_LIMIT], i: usize) -> Record
     ensures { λ r. ⌜ r ≡ getD records i no-record ⌝ }
 {
     lookup(&records, i)
 }
 
 // The records with r at index `at`, or as they are past the last: a local array is lent to `append`.
-fn records_with(records: [Record; WRITES_LIMIT], at: usize, r: Record) -> [Record; WRITES_LIMIT]
+pub fn records_with(records: [Record; WRITES_LIMIT], at: usize, r: Record) -> [Record; WRITES_LIMIT]
     ensures { λ rs. ⌜ rs ≡ set records at r ⌝ }
 {
     let mut stored = records;
     append(&mut stored, at, r);
     stored
-}
-
-// The state's record at index i, or the zero record past its last.
-pub fn record_at(state: State, i: usize) -> Record
-    ensures { λ r. ⌜ r ≡ getD (state .records) i no-record ⌝ }
-{
-    let records = state.records;
-    record_in(records, i)
-}
-
-// The state with r at index count; the count stays.
-pub fn with_record(state: State, r: Record) -> State
-    ensures { λ s. ⌜ s ≡ with-record state r ⌝ }
-{
-    let records = state.records;
-    let stored = records_with(records, state.count, r);
-    let mut next = state;
-    next.records = stored;
-    next
 }

@@ -8,8 +8,8 @@ use mathlib.Core.List.{List}
 use lib.ListN.{length}
 use Rattle.region.specs.Limits.{writes-limit, log-limit}
 use Rattle.pieces.specs.AsyncSpec.{Write}
-use Rattle.records.specs.Desk.{Desk, chunk-size, view, with-write, settled-desk}
-use Rattle.records.proofs.Views.{view-of-settled}
+use Rattle.desk.specs.Desk.{Desk, chunk-size, view, with-write, settled-desk}
+use Rattle.desk.proofs.Views.{view-of-settled}
 use Rattle.gate.specs.Judgement.{Judges}
 use Rattle.gate.specs.Meaning.{could-be-left}
 use Rattle.gate.specs.declared.Verdict.the-variants.{Admitted}

@@ -19,9 +19,9 @@ use Rattle.cuts.proofs.Flush.{flush-leaves-the-read-image}
 use Rattle.cuts.proofs.Nothing.{cut-that-keeps-nothing}
 use Rattle.cuts.proofs.Shape.{shaped-rows-crash}
 use Rattle.cuts.proofs.Tables.{rows-at-shape}
-use Rattle.records.specs.State.{fresh}
-use Rattle.records.specs.Desk.{Desk, desk, chunk-size, chunks, view, settled-desk, opened-desk}
-use Rattle.records.proofs.Views.{writes-counted}
+use Rattle.desk.specs.State.{fresh}
+use Rattle.desk.specs.Desk.{Desk, desk, chunk-size, chunks, view, settled-desk, opened-desk}
+use Rattle.desk.proofs.Views.{writes-counted}
 use Rattle.writelog.specs.Write.{Writes}
 use Rattle.writelog.specs.Flush.{Flushes}
 use Rattle.writelog.specs.Cut.{Cuts}

@@ -10,8 +10,8 @@ use Rattle.region.specs.declared.Answer.{Answer}
 use Rattle.region.specs.declared.Answer.the-variants as answer
 use Rattle.region.proofs.AnswerLaws.{refusal-not-done, left}
 use Rattle.pieces.specs.AsyncSpec.{Write, AsyncView, write}
-use Rattle.records.specs.State.{writes-of}
-use Rattle.records.specs.Desk.{Desk, chunk-size, view}
+use Rattle.desk.specs.State.{writes-of}
+use Rattle.desk.specs.Desk.{Desk, chunk-size, view}
 use Rattle.writelog.specs.declared.cut.CutAnswer.{CutAnswer}
 use Rattle.writelog.specs.declared.cut.CutAnswer.the-variants as cut-answer
 use Rattle.gate.specs.Opening.{Opens}

@@ -16,9 +16,9 @@ use Rattle.pieces.specs.Rows.{rows-right, rows-at}
 use Rattle.cuts.specs.Packed.{are-bytes}
 use Rattle.cuts.proofs.Tables.{tables-cover}
 use Rattle.cuts.proofs.Always.{cut-could-leave-the-last-flush}
-use Rattle.records.specs.Desk.{Desk, chunk-size, chunks, view, settled-desk, opened-desk}
-use Rattle.records.proofs.Soundness.{Sound, facts-sound}
-use Rattle.records.proofs.Views.{view-of-settled, writes-counted}
+use Rattle.desk.specs.Desk.{Desk, chunk-size, chunks, view, settled-desk, opened-desk}
+use Rattle.desk.proofs.Soundness.{Sound, facts-sound}
+use Rattle.desk.proofs.Views.{view-of-settled, writes-counted}
 use Rattle.writelog.specs.Cut.{kept-by-rows, Cuts}
 use Rattle.writelog.specs.declared.cut.CutAnswer.the-variants.{Kept}
 use Rattle.writelog.proofs.CutLaws.{cut-good, cuts-done}

@@ -9,7 +9,7 @@ use Rattle.region.specs.declared.Answer.{Answer}
 use Rattle.region.specs.declared.Answer.the-variants.{Done, Refused}
 use Rattle.region.specs.declared.Refusal.{Refusal}
 use Rattle.pieces.specs.AsyncSpec.{Write}
-use Rattle.records.specs.Desk.{Desk}
+use Rattle.desk.specs.Desk.{Desk}
 use Rattle.writelog.specs.Write.{Writes}
 use Rattle.writelog.specs.Read.{Fills, HandsBack}
 use Rattle.writelog.specs.Flush.{Flushes}

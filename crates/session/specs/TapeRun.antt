@@ -6,7 +6,7 @@ use mathlib.Core.List.{List}
 use Rattle.region.specs.declared.Answer.{Answer}
 use Rattle.region.specs.declared.Answer.the-variants.{Done}
 use Rattle.pieces.specs.AsyncSpec.{Write}
-use Rattle.records.specs.Desk.{Desk}
+use Rattle.desk.specs.Desk.{Desk}
 use Rattle.writelog.specs.declared.cut.CutAnswer.{CutAnswer}
 use Rattle.gate.specs.Opening.{Opens}
 use Rattle.gate.specs.Judgement.{Judges}

@@ -9,7 +9,7 @@ use lib.ListN.{length}
 use Rattle.region.specs.declared.Answer.the-variants.{Done}
 use Rattle.pieces.specs.AsyncSpec.{Write, AsyncView, write}
 use Rattle.cuts.specs.Bits.{view-chunks}
-use Rattle.records.specs.Desk.{chunk-size, view}
+use Rattle.desk.specs.Desk.{chunk-size, view}
 use Rattle.writelog.specs.declared.cut.CutAnswer.the-variants.{Kept}
 use Rattle.epochs.specs.Epoch.{row-place}
 use Rattle.epochs.specs.Foretold.{predicted-image}

@@ -12,7 +12,7 @@ use Rattle.region.specs.declared.Answer.the-variants.{Done}
 use Rattle.pieces.specs.AsyncSpec.{committed}
 use Rattle.cuts.specs.Packed.{are-bytes}
 use Rattle.sheet.specs.Sheet.{allows}
-use Rattle.records.specs.Desk.{Desk, chunk-size, view}
+use Rattle.desk.specs.Desk.{Desk, chunk-size, view}
 use Rattle.writelog.specs.Cut.{cut-number}
 use Rattle.gate.specs.Opening.{Opens}
 use Rattle.gate.specs.Meaning.{could-be-left}

@@ -16,9 +16,9 @@ use Rattle.region.proofs.Booleans.{both-true}
 use Rattle.pieces.specs.AsyncSpec.{Write, flush-selective}
 use Rattle.pieces.specs.Kept.{kept}
 use Rattle.pieces.specs.Rows.{row-bytes, rows-at, rows-filled, rows-right}
-use Rattle.records.specs.Desk.{chunk-size, chunks, view, settled-desk}
-use Rattle.records.proofs.Soundness.{facts-sound}
-use Rattle.records.proofs.Views.{writes-counted}
+use Rattle.desk.specs.Desk.{chunk-size, chunks, view, settled-desk}
+use Rattle.desk.proofs.Soundness.{facts-sound}
+use Rattle.desk.proofs.Views.{writes-counted}
 use Rattle.writelog.specs.Write.{Writes}
 use Rattle.writelog.specs.Flush.{Flushes}
 use Rattle.writelog.specs.Cut.{cut-told, Cuts}

@@ -16,9 +16,9 @@ use Rattle.cuts.specs.Prophecy.{prophecy}
 use Rattle.cuts.specs.Shape.{has-shape}
 use Rattle.cuts.proofs.Packed.{bytes-of-append}
 use Rattle.cuts.proofs.Shape.{crash-rows-shaped}
-use Rattle.records.specs.Desk.{Desk, chunk-size, chunks, view, sound}
-use Rattle.records.proofs.Soundness.{sound-facts}
-use Rattle.records.proofs.Views.{writes-counted}
+use Rattle.desk.specs.Desk.{Desk, chunk-size, chunks, view, sound}
+use Rattle.desk.proofs.Soundness.{sound-facts}
+use Rattle.desk.proofs.Views.{writes-counted}
 use Rattle.epochs.specs.Epoch.{flush-foretold, epoch-rows, epoch-number}
 use Rattle.epochs.specs.Foretold.{foretold, predicted-image, predicted-now}
 use Rattle.epochs.specs.Future.{Foreseen, TellsEpoch, epoch-bytes}

@@ -12,15 +12,15 @@ use Rattle.region.specs.declared.Refusal.{Refusal}
 use Rattle.region.proofs.AnswerLaws.{passed, go-on, stop, both-none}
 use Rattle.region.proofs.Booleans.{cond-when, cond-unless, and-when, and-unless, both}
 use Rattle.pieces.specs.AsyncSpec.{Write, size-to-chunks}
-use Rattle.records.specs.State.{sound-for, record-of, room-number}
-use Rattle.records.specs.Desk.{chunk-size, chunks, sound, with-write}
-use Rattle.records.specs.Log.{KeptFrom}
-use Rattle.records.specs.declared.state.Record.{Record}
-use Rattle.records.specs.declared.state.State.{State}
-use Rattle.records.proofs.RoomLaws.{room-done}
-use Rattle.records.proofs.Soundness.{SoundFor, Sound, sound-facts, Room}
-use Rattle.records.proofs.Views.{sized-of-appended, sound-after-recorded}
-use Rattle.records.proofs.Walk.{all-remain}
+use Rattle.desk.specs.State.{sound-for, record-of, room-number}
+use Rattle.desk.specs.Desk.{chunk-size, chunks, sound, with-write}
+use Rattle.desk.specs.Log.{KeptFrom}
+use Rattle.records.specs.declared.Record.{Record}
+use Rattle.desk.specs.declared.state.State.{State}
+use Rattle.desk.proofs.RoomLaws.{room-done}
+use Rattle.desk.proofs.Soundness.{SoundFor, Sound, sound-facts, Room}
+use Rattle.desk.proofs.Views.{sized-of-appended, sound-after-recorded}
+use Rattle.desk.proofs.Walk.{all-remain}
 use Rattle.writelog.specs.Write.{write-number}
 use Rattle.writelog.proofs.WriteLaws.{write-sound}
 use Rattle.epochs.specs.Epoch.{flush-foretold, epoch-number}

@@ -11,9 +11,9 @@ use Rattle.region.specs.declared.Answer.{Answer}
 use Rattle.region.specs.declared.Answer.the-variants.{Done, Refused}
 use Rattle.region.proofs.AnswerLaws.{done-changed, refused-left}
 use Rattle.pieces.specs.AsyncSpec.{Write, readable}
-use Rattle.records.specs.State.{emptied}
-use Rattle.records.specs.Desk.{desk, chunk-size, view}
-use Rattle.records.specs.declared.state.State.{State}
+use Rattle.desk.specs.State.{emptied}
+use Rattle.desk.specs.Desk.{desk, chunk-size, view}
+use Rattle.desk.specs.declared.state.State.{State}
 use Rattle.writelog.specs.Cut.{kept-by-rows}
 use Rattle.writelog.specs.declared.cut.CutAnswer.the-variants as cut-answer
 use Rattle.writelog.proofs.CutLaws.{kept-told, refused-told}

@@ -13,8 +13,8 @@ use Rattle.region.proofs.AnswerLaws.{changed}
 use Rattle.pieces.specs.AsyncSpec.{Write, AsyncView, flush, write, can-crash-as}
 use Rattle.cuts.specs.Bits.{view-chunks}
 use Rattle.cuts.proofs.Flush.{flush-leaves-the-read-image}
-use Rattle.records.specs.Desk.{chunk-size, view}
-use Rattle.records.proofs.Views.{view-of-recorded, view-of-settled, writes-counted}
+use Rattle.desk.specs.Desk.{chunk-size, view}
+use Rattle.desk.proofs.Views.{view-of-recorded, view-of-settled, writes-counted}
 use Rattle.writelog.specs.declared.cut.CutAnswer.{CutAnswer}
 use Rattle.epochs.specs.Epoch.{epoch-rows, row-place}
 use Rattle.epochs.specs.Foretold.{foretold, predicted-image, predicted-now}

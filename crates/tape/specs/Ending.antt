@@ -9,8 +9,8 @@ use Rattle.region.specs.Limits.{writes-limit}
 use Rattle.region.specs.Answer.{answer-number, unless, if-done}
 use Rattle.region.specs.declared.Answer.{Answer}
 use Rattle.pieces.specs.AsyncSpec.{size-to-chunks}
-use Rattle.records.specs.Desk.{Desk, chunk-size, chunks, settled-desk}
-use Rattle.records.specs.declared.state.State.{State}
+use Rattle.desk.specs.Desk.{Desk, chunk-size, chunks, settled-desk}
+use Rattle.desk.specs.declared.state.State.{State}
 use Rattle.epochs.specs.Epoch.{flush-foretold, row-place, epoch-number}
 use Rattle.epochs.specs.Foretold.{predicted-now}
 use Rattle.tape.specs.Memory.{TapeDesk, by-tape, or-else, tape-sound-for}

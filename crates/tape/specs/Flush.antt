@@ -6,7 +6,7 @@ use mathlib.Core.List.{List}
 use Rattle.region.specs.Answer.{answer-number, if-done}
 use Rattle.region.specs.declared.Answer.{Answer}
 use Rattle.pieces.specs.AsyncSpec.{readable}
-use Rattle.records.specs.Desk.{view}
+use Rattle.desk.specs.Desk.{view}
 use Rattle.tape.specs.Memory.{TapeDesk}
 use Rattle.tape.specs.Ending.{tape-ending-number, epoch-ended}
 

@@ -5,9 +5,9 @@ use mathlib.Core.Bool.{Bool, _&&_}
 use mathlib.Core.List.{List}
 use lib.Dec.{eqb}
 use Rattle.region.specs.Answer.{if-done}
-use Rattle.records.specs.State.{sound-for}
-use Rattle.records.specs.Desk.{Desk}
-use Rattle.records.specs.declared.state.State.{State}
+use Rattle.desk.specs.State.{sound-for}
+use Rattle.desk.specs.Desk.{Desk}
+use Rattle.desk.specs.declared.state.State.{State}
 
 pub record TapeDesk : Type 0 where
   pub memory : Desk

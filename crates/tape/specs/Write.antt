@@ -6,10 +6,10 @@ use lib.ListN.{length}
 use Rattle.region.specs.Answer.{answer-number, unless, if-done}
 use Rattle.region.specs.declared.Answer.{Answer}
 use Rattle.pieces.specs.AsyncSpec.{Write, size-to-chunks}
-use Rattle.records.specs.State.{record-of, room-number}
-use Rattle.records.specs.Desk.{chunk-size, with-write}
-use Rattle.records.specs.declared.state.Record.{Record}
-use Rattle.records.specs.declared.state.State.{State}
+use Rattle.desk.specs.State.{record-of, room-number}
+use Rattle.desk.specs.Desk.{chunk-size, with-write}
+use Rattle.records.specs.declared.Record.{Record}
+use Rattle.desk.specs.declared.state.State.{State}
 use Rattle.epochs.specs.Epoch.{epoch-number}
 use Rattle.epochs.specs.Foretold.{predicted-now}
 use Rattle.tape.specs.Memory.{TapeDesk, by-tape, or-else, tape-sound-for}

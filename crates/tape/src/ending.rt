@@ -1,13 +1,13 @@
 // The end of an epoch, by a flush or by a cut: the same tests but for the header, and the same step.
+use desk::state::Outstanding;
+use desk::state::State;
+use desk::state::checked;
+use desk::state::emptied;
 use epochs::epoch::epoch;
 use epochs::epoch::flush_foretold;
 use epochs::predict::predict;
 use pieces::lay::lay;
 use pieces::rows::row_bytes;
-use records::state::Outstanding;
-use records::state::State;
-use records::state::checked;
-use records::state::emptied;
 use region::Answer;
 use region::Refusal;
 use region::chunks::size_to_chunks;
@@ -15,7 +15,7 @@ ghost use mathlib.Core.Path.{_≡_};
 ghost use lib.ListN.{length};
 ghost use Rattle.region.specs.Answer.{answer-number};
 ghost use Rattle.region.specs.Limits.{writes-limit, const-persistence-chunk-size};
-ghost use Rattle.records.specs.Desk.{desk};
+ghost use Rattle.desk.specs.Desk.{desk};
 ghost use Rattle.epochs.specs.Predictable.{Predictable};
 ghost use Rattle.tape.specs.Memory.{by-tape};
 ghost use Rattle.tape.specs.Ending.{ending-number, Settles, Ends};

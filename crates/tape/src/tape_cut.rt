@@ -1,10 +1,10 @@
 // The cut by tape.
 use crate::ending::end_epoch;
-use records::log::kept;
-use records::state::State;
+use desk::log::kept;
+use desk::state::State;
 use region::Answer;
 use writelog::cut::CutAnswer;
-ghost use Rattle.records.specs.Desk.{desk};
+ghost use Rattle.desk.specs.Desk.{desk};
 ghost use Rattle.tape.specs.Memory.{by-tape};
 ghost use Rattle.tape.specs.Cut.{TapeCuts};
 

@@ -1,8 +1,8 @@
 // The flush by tape.
 use crate::ending::Ended;
 use crate::ending::end_epoch;
-use records::state::State;
-ghost use Rattle.records.specs.Desk.{desk};
+use desk::state::State;
+ghost use Rattle.desk.specs.Desk.{desk};
 ghost use Rattle.tape.specs.Memory.{by-tape};
 ghost use Rattle.tape.specs.Flush.{TapeFlushes};
 

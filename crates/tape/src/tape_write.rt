@@ -1,12 +1,12 @@
 // The write by tape.
+use desk::room::recorded;
+use desk::room::room;
+use desk::state::Outstanding;
+use desk::state::State;
+use desk::state::checked;
 use epochs::epoch::epoch;
 use epochs::predict::predict;
-use records::room::recorded;
-use records::room::room;
-use records::state::Outstanding;
-use records::state::Record;
-use records::state::State;
-use records::state::checked;
+use records::Record;
 use region::Answer;
 use region::Refusal;
 use writelog::write::Written;
@@ -15,8 +15,8 @@ ghost use Prim.Native.Nat.{_≤_};
 ghost use Rattle.region.specs.Answer.{answer-number};
 ghost use Rattle.region.specs.Limits.{image-limit, log-limit, const-persistence-chunk-size};
 ghost use Rattle.pieces.specs.AsyncSpec.{write-of};
-ghost use Rattle.records.specs.State.{log-records, together};
-ghost use Rattle.records.specs.Desk.{desk};
+ghost use Rattle.desk.specs.State.{log-records, together};
+ghost use Rattle.desk.specs.Desk.{desk};
 ghost use Rattle.tape.specs.Memory.{by-tape};
 ghost use Rattle.tape.specs.Write.{tape-room-number, TapeWrites};
 

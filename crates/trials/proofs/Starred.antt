@@ -11,7 +11,7 @@ use Rattle.cuts.specs.Search.{finding, finding-from}
 use Rattle.bits.specs.Bits.{field, read-field}
 use Rattle.sheet.specs.Sheet.{clause-holds, empty-holds, join, holds, members-hold, read-tagged, read-entry, read-members, read-rest, read-rule}
 use Rattle.sheet.specs.Sheet.{read-edition, filling, read-filling, read-whole, read-sheet, well-formed, obeys}
-use Rattle.records.specs.State.{writes-of, together, records-inside, sound-for}
+use Rattle.desk.specs.State.{writes-of, together, records-inside, sound-for}
 use Rattle.writelog.specs.Read.{asked-number}
 use Rattle.writelog.specs.Cut.{cut-number}
 use Rattle.gate.specs.Judgement.{judgement}

@@ -8,8 +8,8 @@ use Rattle.region.specs.Pmemspec.{extract-bytes, size-to-chunks}
 use Rattle.region.specs.Answer.{Report}
 use Rattle.pieces.specs.AsyncSpec.{Write, write-of, readable}
 use Rattle.cuts.specs.Number.{choice-image, choice-points}
-use Rattle.records.specs.State.{fresh}
-use Rattle.records.specs.Desk.{Desk, desk, chunk-size, view, with-write}
+use Rattle.desk.specs.State.{fresh}
+use Rattle.desk.specs.Desk.{Desk, desk, chunk-size, view, with-write}
 use Rattle.writelog.specs.Read.{read-number}
 use Rattle.writelog.specs.Cut.{cut-number, image-by-rows, kept-by-rows}
 use Rattle.gate.specs.Judgement.{judge-report}

@@ -6,11 +6,11 @@ use crate::print::name;
 use crate::print::number;
 use crate::print::seen;
 use crate::print::verdict;
+use desk::state::State;
+use desk::state::fresh;
 use gate::gate::gate;
 use gate::judge::judge;
 use gate::open::open;
-use records::state::State;
-use records::state::fresh;
 use region::numbers::answer_number;
 
 // The opening's number for an image and a sheet.

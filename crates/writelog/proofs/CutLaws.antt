@@ -8,7 +8,7 @@ use Rattle.region.specs.declared.Refusal.{Refusal}
 use Rattle.region.proofs.AnswerLaws.{done-changed, refused-left}
 use Rattle.region.proofs.Booleans.{cond-when, cond-unless}
 use Rattle.pieces.specs.Rows.{rows-right}
-use Rattle.records.specs.Desk.{Desk, chunks, sound, settled-desk}
+use Rattle.desk.specs.Desk.{Desk, chunks, sound, settled-desk}
 use Rattle.writelog.specs.Cut.{cut-report, cut-told, image-by-rows, kept-by-rows, cut-number, Cuts}
 use Rattle.writelog.specs.declared.cut.CutAnswer.the-variants.{Kept, Refused}
 

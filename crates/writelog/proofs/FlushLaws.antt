@@ -6,7 +6,7 @@ use Rattle.region.specs.declared.Answer.the-variants.{Done, Refused}
 use Rattle.region.proofs.AnswerLaws.{done-changed, refused-left}
 use Rattle.region.proofs.Booleans.{cond-when, cond-unless}
 use Rattle.pieces.specs.AsyncSpec.{readable}
-use Rattle.records.specs.Desk.{Desk, view, sound, settled-desk}
+use Rattle.desk.specs.Desk.{Desk, view, sound, settled-desk}
 use Rattle.writelog.specs.Flush.{flush-number, Flushes}
 
 module _ (d : Desk) where

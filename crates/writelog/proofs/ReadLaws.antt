@@ -7,8 +7,8 @@ use borrow.Author.Tests.{eq-eqb, ne-eqb, eqb-true, leb-true}
 use Rattle.region.specs.Answer.{unless}
 use Rattle.region.proofs.AnswerLaws.{passed}
 use Rattle.region.proofs.Booleans.{cond-when, cond-unless, and-unless, both, both-true}
-use Rattle.records.specs.State.{sound-for}
-use Rattle.records.specs.declared.state.State.{State}
+use Rattle.desk.specs.State.{sound-for}
+use Rattle.desk.specs.declared.state.State.{State}
 use Rattle.writelog.specs.Read.{asked-number}
 
 module _ (L : ℕ) (st : State) (log-length work-length addr len : ℕ) where

@@ -10,8 +10,8 @@ use Rattle.region.specs.declared.Answer.the-variants.{Done, Refused}
 use Rattle.region.proofs.AnswerLaws.{done-changed, refused-left}
 use Rattle.region.proofs.Booleans.{cond-when, cond-unless}
 use Rattle.pieces.specs.AsyncSpec.{Write}
-use Rattle.records.specs.State.{record-of, room-number}
-use Rattle.records.specs.Desk.{Desk, sound, with-write}
+use Rattle.desk.specs.State.{record-of, room-number}
+use Rattle.desk.specs.Desk.{Desk, sound, with-write}
 use Rattle.writelog.specs.Write.{write-number, Writes}
 
 module _ (d : Desk) (w : Write) where

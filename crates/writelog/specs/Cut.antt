@@ -7,7 +7,7 @@ use Rattle.region.specs.Answer.{Report, refusal-number, unless, if-done}
 use Rattle.pieces.specs.AsyncSpec.{flush-selective}
 use Rattle.pieces.specs.Rows.{rows-right, rows-at}
 use Rattle.pieces.specs.Kept.{kept}
-use Rattle.records.specs.Desk.{Desk, chunk-size, chunks, view, sound, settled-desk}
+use Rattle.desk.specs.Desk.{Desk, chunk-size, chunks, view, sound, settled-desk}
 use Rattle.writelog.specs.declared.cut.CutAnswer.{CutAnswer}
 use Rattle.writelog.specs.declared.cut.CutAnswer.the-variants.{Kept, Refused}
 

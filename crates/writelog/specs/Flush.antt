@@ -4,7 +4,7 @@ use mathlib.Core.Path.{_≡_}
 use Rattle.region.specs.Answer.{answer-number, unless, if-done}
 use Rattle.region.specs.declared.Answer.{Answer}
 use Rattle.pieces.specs.AsyncSpec.{readable}
-use Rattle.records.specs.Desk.{Desk, view, sound, settled-desk}
+use Rattle.desk.specs.Desk.{Desk, view, sound, settled-desk}
 
 module _ (d : Desk) where
   unfoldable pub flush-number : ℕ

@@ -11,9 +11,9 @@ use Rattle.region.specs.Pmemspec.{extract-bytes}
 use Rattle.region.specs.Answer.{answer-number, unless, if-done}
 use Rattle.region.specs.declared.Answer.{Answer}
 use Rattle.pieces.specs.AsyncSpec.{readable}
-use Rattle.records.specs.State.{sound-for}
-use Rattle.records.specs.Desk.{Desk, view}
-use Rattle.records.specs.declared.state.State.{State}
+use Rattle.desk.specs.State.{sound-for}
+use Rattle.desk.specs.Desk.{Desk, view}
+use Rattle.desk.specs.declared.state.State.{State}
 
 -- the number goes by the lengths of image, log buffer and working image
 unfoldable pub asked-number : (L : ℕ) → State → (log-length work-length addr len : ℕ) → ℕ

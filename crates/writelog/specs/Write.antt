@@ -5,8 +5,8 @@ use lib.ListN.{length}
 use Rattle.region.specs.Answer.{answer-number, unless, if-done}
 use Rattle.region.specs.declared.Answer.{Answer}
 use Rattle.pieces.specs.AsyncSpec.{Write}
-use Rattle.records.specs.State.{record-of, room-number}
-use Rattle.records.specs.Desk.{Desk, sound, with-write}
+use Rattle.desk.specs.State.{record-of, room-number}
+use Rattle.desk.specs.Desk.{Desk, sound, with-write}
 
 module _ (d : Desk) (w : Write) where
   unfoldable pub write-number : ℕ

@@ -1,12 +1,12 @@
 // The cut.
+use desk::log::kept;
+use desk::log::replay_selected;
+use desk::state::Outstanding;
+use desk::state::State;
+use desk::state::checked;
+use desk::state::emptied;
 use pieces::rows::row_bytes;
 use pieces::rows::rows_filled;
-use records::log::kept;
-use records::log::replay_selected;
-use records::state::Outstanding;
-use records::state::State;
-use records::state::checked;
-use records::state::emptied;
 use region::Refusal;
 use region::chunks::size_to_chunks;
 ghost use mathlib.Core.Path.{_≡_};
@@ -14,7 +14,7 @@ ghost use Prim.Native.Nat.{_≤_};
 ghost use Rattle.region.specs.Limits.{image-limit, writes-limit, const-persistence-chunk-size};
 ghost use Rattle.pieces.specs.AsyncSpec.{size-to-chunks};
 ghost use Rattle.pieces.specs.Rows.{rows-right};
-ghost use Rattle.records.specs.Desk.{desk};
+ghost use Rattle.desk.specs.Desk.{desk};
 ghost use Rattle.writelog.specs.Cut.{Cuts};
 
 // The answer of a cut: how many pieces it kept, or why it refused.

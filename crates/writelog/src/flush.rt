@@ -1,12 +1,12 @@
 // The flush.
-use records::log::replay_whole;
-use records::state::Outstanding;
-use records::state::State;
-use records::state::checked;
-use records::state::emptied;
+use desk::log::replay_whole;
+use desk::state::Outstanding;
+use desk::state::State;
+use desk::state::checked;
+use desk::state::emptied;
 use region::Answer;
 use region::Refusal;
-ghost use Rattle.records.specs.Desk.{desk};
+ghost use Rattle.desk.specs.Desk.{desk};
 ghost use Rattle.writelog.specs.Flush.{Flushes};
 
 pub struct Flushed {

@@ -1,17 +1,17 @@
 // The read, and the number of the same question.
+use desk::log::replay_whole;
+use desk::state::Outstanding;
+use desk::state::State;
+use desk::state::checked;
+use desk::state::within;
 use pieces::lay::lay;
-use records::log::replay_whole;
-use records::state::Outstanding;
-use records::state::State;
-use records::state::checked;
-use records::state::within;
 use region::Answer;
 use region::Refusal;
 ghost use mathlib.Core.Path.{_≡_};
 ghost use lib.ListN.{length};
 ghost use Rattle.region.specs.Answer.{answer-number};
 ghost use Rattle.region.specs.Limits.{writes-limit};
-ghost use Rattle.records.specs.Desk.{desk};
+ghost use Rattle.desk.specs.Desk.{desk};
 ghost use Rattle.writelog.specs.Read.{asked-number, read-number, Fills, HandsBack};
 
 // The answer for an image, a log buffer and a working image of these lengths.

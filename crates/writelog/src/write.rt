@@ -1,14 +1,14 @@
 // The plain write.
-use records::room::recorded;
-use records::room::room;
-use records::state::Outstanding;
-use records::state::Record;
-use records::state::State;
-use records::state::checked;
+use desk::room::recorded;
+use desk::room::room;
+use desk::state::Outstanding;
+use desk::state::State;
+use desk::state::checked;
+use records::Record;
 use region::Answer;
 use region::Refusal;
 ghost use Rattle.pieces.specs.AsyncSpec.{write-of};
-ghost use Rattle.records.specs.Desk.{desk};
+ghost use Rattle.desk.specs.Desk.{desk};
 ghost use Rattle.writelog.specs.Write.{Writes};
 
 pub struct Written {

@@ -5,7 +5,7 @@ use mathlib.Core.Path.{_≡_, refl, ap, _∙_}
 use mathlib.Core.List.{List}
 use lib.ListN.{length, getD, take, drop, length-set}
 use Rattle.region.specs.Limits.{writes-limit}
-use Rattle.records.specs.declared.state.Record.{Record}
+use Rattle.records.specs.declared.Record.{Record}
 use Rattle.boundary.specs.Words.{records-of}
 use Rattle.boundary.proofs.WordLaws.{load-more, said-length, front-all}
 use Rattle.boundary.proofs.state_words.loaded.Statement.{statement}

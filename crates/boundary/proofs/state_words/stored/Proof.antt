@@ -4,7 +4,7 @@ use native.Mathlib.Omega.{arith}
 use mathlib.Core.Path.{_≡_, refl, sym, _∙_}
 use lib.ListN.{length, getD, take, set, length-set, length-map}
 use Rattle.region.specs.Limits.{writes-limit}
-use Rattle.records.specs.State.{no-record}
+use Rattle.desk.specs.State.{no-record}
 use Rattle.boundary.specs.Words.{state-words, words-of}
 use Rattle.boundary.proofs.WordLaws.{store-more, words-length, front-more, front-all}
 use Rattle.boundary.proofs.state_words.stored.Statement.{statement}

@@ -6,7 +6,7 @@ use lib.ListN.{length}
 use lib.Pow.{pow-pos}
 use borrow.Author.Tests.{not-true, not-false}
 use Rattle.pieces.specs.AsyncSpec.{write-of}
-use Rattle.records.specs.Desk.{desk}
+use Rattle.desk.specs.Desk.{desk}
 use Rattle.engine.proofs.SearchLaws.{Tried, tried-none, tried-more, found-bad, found-none, numbers-exact, ready-points}
 use Rattle.engine.proofs.search.search.Statement.{statement}
 use Rattle.engine.proofs.search.search.Tie as tie

@@ -8,7 +8,7 @@ use borrow.Author.Needs.{needs}
 use Rattle.pieces.specs.AsyncSpec.{size-to-chunks}
 use Rattle.pieces.specs.Rows.{row-bytes}
 use Rattle.pieces.proofs.Laid.{update-whole}
-use Rattle.records.specs.Desk.{Desk, desk}
+use Rattle.desk.specs.Desk.{Desk, desk}
 use Rattle.epochs.proofs.PredictLaws.{whole-replay-is-predicted, selected-replay-is-predicted}
 use Rattle.epochs.proofs.predict.predict.Statement.{statement}
 use Rattle.epochs.proofs.predict.predict.Tie as tie

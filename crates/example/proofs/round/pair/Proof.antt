@@ -3,7 +3,7 @@
 use mathlib.Core.Path.{ap, _∙_}
 use lib.ListN.{length, length-set}
 use borrow.Author.Needs.{needs}
-use Rattle.records.specs.Desk.{Desk, desk, with-write}
+use Rattle.desk.specs.Desk.{Desk, desk, with-write}
 use Rattle.example.proofs.Arms.{admitted-goes-on}
 use Rattle.example.proofs.ByteLog.{byte-write}
 use Rattle.example.proofs.StepLaws.{Gated, once, twice, pair-goes}

@@ -4,7 +4,7 @@ use Prim.Native.Nat.{ℕ, _+_, _-_, _≤_}
 use native.Mathlib.Omega.{arith}
 use mathlib.Core.Path.{_≡_, subst}
 use borrow.Author.Needs.{needs}
-use Rattle.records.specs.Desk.{desk}
+use Rattle.desk.specs.Desk.{desk}
 use Rattle.example.specs.Steps.{Under, Repeats}
 use Rattle.example.specs.declared.RunAnswer.the-variants.{Done}
 use Rattle.example.proofs.Arms.{done-goes-on}

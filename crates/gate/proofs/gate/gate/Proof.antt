@@ -5,8 +5,8 @@ use mathlib.Core.Path.{refl, ap, ap₂, _∙_}
 use lib.ListN.{length}
 use borrow.Author.Needs.{needs}
 use Rattle.region.specs.Pmemspec.{update-bytes}
-use Rattle.records.specs.Desk.{desk}
-use Rattle.records.proofs.Soundness.{Told, told-bytes, told-unsound}
+use Rattle.desk.specs.Desk.{desk}
+use Rattle.desk.proofs.Soundness.{Told, told-bytes, told-unsound}
 use Rattle.gate.proofs.JudgementLaws.{judges-unsound, admitted-fits, gates-admitted, gates-denied, gates-refused}
 use Rattle.gate.proofs.gate.gate.Statement.{statement}
 use Rattle.gate.proofs.gate.gate.Tie as tie

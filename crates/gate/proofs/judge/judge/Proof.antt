@@ -1,6 +1,6 @@
 -- The test of the state, and then the judging. Assumes nothing.
 use borrow.Author.Needs.{needs}
-use Rattle.records.proofs.Soundness.{told-bytes, told-unsound}
+use Rattle.desk.proofs.Soundness.{told-bytes, told-unsound}
 use Rattle.gate.proofs.JudgementLaws.{judges-unsound}
 use Rattle.gate.proofs.judge.judge.Statement.{statement}
 use Rattle.gate.proofs.judge.judge.Tie as tie

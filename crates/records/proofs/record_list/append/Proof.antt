@@ -37,8 +37,8 @@ use denote.Steps.{owned, nothing}
 use denote.Triple.Entry.{Vals, onEntry}
 use denote.Triple.Walked.{says, Stays, stay-slice, stay-none, walkOf, goes-slice, goes-none, ends-at}
 use denote.Exit.{yes}
-use Rattle.records.specs.State.{no-record}
-use Rattle.records.specs.declared.state.Record.{Record}
+use Rattle.records.specs.Record.{no-record}
+use Rattle.records.specs.declared.Record.{Record}
 use Rattle.records.proofs.Branch.{local, sets, frees-room, frees-cell, returns-if, by-walk}
 use Rattle.records.proofs.RecordRow.{R, val, vals, tells, bytes, inside, makes, typed}
 use Rattle.records.proofs.record_list.append.Key.{name as #append}

@@ -32,8 +32,8 @@ use denote.Steps.{owned, nothing}
 use denote.Triple.Entry.{Vals, onEntry}
 use denote.Triple.Walked.{says, Stays, stay-none-slice, stay-none, walkOf, goes-none-slice, goes-none, ends-at}
 use denote.Exit.{yes}
-use Rattle.records.specs.State.{no-record}
-use Rattle.records.specs.declared.state.Record.{Record}
+use Rattle.records.specs.Record.{no-record}
+use Rattle.records.specs.declared.Record.{Record}
 use Rattle.records.proofs.Branch.{local, sets, frees-room, frees-cell, returns-if, by-walk}
 use Rattle.records.proofs.RecordRow.{R, val, vals, tells, zero-is, zero-literal, bytes, inside, makes, copies, typed}
 use Rattle.records.proofs.record_list.lookup.Key.{name as #lookup}

@@ -37,8 +37,8 @@ use denote.Triple.Spec.{tripleOf}
 use denote.Triple.Table.{cited}
 use denote.Triple.Walked.{says, Stays, stay-none, walkOf, goes-none, ends-at}
 use denote.Exit.{yes}
-use Rattle.records.specs.State.{no-record}
-use Rattle.records.specs.declared.state.Record.{Record}
+use Rattle.records.specs.Record.{no-record}
+use Rattle.records.specs.declared.Record.{Record}
 use Rattle.records.proofs.Branch.{local, sets, frees-cell, by-walk}
 use Rattle.records.proofs.RecordRow.{R, vals, lawful}
 use Rattle.records.proofs.LentRecords.{Records, of-list, list-tells, all-there, lent, slice, typed-list, lends-shared, shared-back}

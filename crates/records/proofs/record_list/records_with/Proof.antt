@@ -38,7 +38,7 @@ use denote.Triple.Spec.{tripleOf}
 use denote.Triple.Table.{cited}
 use denote.Triple.Walked.{says, Stays, stay-none, walkOf, goes-none, ends-at}
 use denote.Exit.{yes}
-use Rattle.records.specs.declared.state.Record.{Record}
+use Rattle.records.specs.declared.Record.{Record}
 use Rattle.records.proofs.Branch.{local, sets, frees-cell, by-walk}
 use Rattle.records.proofs.RecordRow.{R, val, vals, tells, makes, typed}
 use Rattle.records.proofs.LentRecords.{Records, of-list, list-tells, list-makes, all-there, lent, slice, typed-list, lends-mutable, mutable-back}

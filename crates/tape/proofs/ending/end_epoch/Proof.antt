@@ -3,7 +3,7 @@
 use mathlib.Core.Path.{sym, ap, _∙_}
 use borrow.Author.Needs.{needs}
 use Rattle.region.specs.Answer.{answer-number}
-use Rattle.records.specs.Desk.{desk}
+use Rattle.desk.specs.Desk.{desk}
 use Rattle.tape.specs.Memory.{TapeDesk, by-tape}
 use Rattle.tape.proofs.NumberLaws.{Ending, ending-done, predictable-now}
 use Rattle.tape.proofs.PromiseLaws.{ends-done, ends-refused}

@@ -7,7 +7,7 @@ use borrow.Author.Needs.{needs}
 use Rattle.region.specs.Answer.{answer-number}
 use Rattle.region.specs.Limits.{const-persistence-chunk-size}
 use Rattle.pieces.specs.AsyncSpec.{size-to-chunks}
-use Rattle.records.proofs.Soundness.{Told, told-bytes, told-unsound}
+use Rattle.desk.proofs.Soundness.{Told, told-bytes, told-unsound}
 use Rattle.tape.specs.Memory.{tape-sound-for}
 use Rattle.epochs.specs.Epoch.{epoch-number}
 use Rattle.tape.specs.Ending.{as-foretold}

@@ -7,7 +7,7 @@ use borrow.Author.Needs.{needs}
 use Rattle.pieces.specs.AsyncSpec.{size-to-chunks}
 use Rattle.pieces.specs.Rows.{row-bytes}
 use Rattle.pieces.proofs.Laid.{update-whole}
-use Rattle.records.specs.Desk.{Desk, desk, chunk-size, chunks}
+use Rattle.desk.specs.Desk.{Desk, desk, chunk-size, chunks}
 use Rattle.tape.proofs.ending.settle.Statement.{statement}
 use Rattle.tape.proofs.ending.settle.Tie as tie
 

@@ -4,9 +4,9 @@ use native.Mathlib.Omega.{arith}
 use mathlib.Core.Path.{_≡_, sym, ap, _∙_}
 use borrow.Author.Needs.{needs}
 use Rattle.region.specs.Answer.{answer-number}
-use Rattle.records.specs.State.{room-number}
-use Rattle.records.proofs.RoomLaws.{room-done}
-use Rattle.records.proofs.Soundness.{Room}
+use Rattle.desk.specs.State.{room-number}
+use Rattle.desk.proofs.RoomLaws.{room-done}
+use Rattle.desk.proofs.Soundness.{Room}
 use Rattle.tape.proofs.NumberLaws.{tape-room-goes-on, tape-room-stops}
 use Rattle.tape.proofs.tape_write.tape_room.Statement.{statement}
 use Rattle.tape.proofs.tape_write.tape_room.Tie as tie

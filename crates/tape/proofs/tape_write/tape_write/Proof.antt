@@ -10,8 +10,8 @@ use Rattle.region.specs.Answer.{answer-number}
 use Rattle.region.specs.Pmemspec.{update-bytes}
 use Rattle.region.specs.declared.Refusal.the-variants.{BadState}
 use Rattle.pieces.specs.AsyncSpec.{Write, write-of}
-use Rattle.records.specs.Desk.{Desk, desk, with-write}
-use Rattle.records.proofs.Soundness.{Told, told-bytes, told-unsound}
+use Rattle.desk.specs.Desk.{Desk, desk, with-write}
+use Rattle.desk.proofs.Soundness.{Told, told-bytes, told-unsound}
 use Rattle.epochs.specs.Predictable.{Predictable}
 use Rattle.epochs.specs.Foretold.{predicted-now}
 use Rattle.tape.specs.Memory.{TapeDesk, by-tape}

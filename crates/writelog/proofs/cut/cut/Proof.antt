@@ -12,12 +12,12 @@ use Rattle.region.specs.declared.Refusal.the-variants.{BadState, BadRows}
 use Rattle.region.proofs.Booleans.{both}
 use Rattle.pieces.specs.Rows.{row-bytes, rows-right}
 use Rattle.pieces.specs.AsyncSpec.{Write, flush-writes-selective}
-use Rattle.records.specs.State.{log-records}
-use Rattle.records.specs.Desk.{Desk, desk, chunk-size, chunks}
-use Rattle.records.specs.declared.state.State.{State}
-use Rattle.records.proofs.KeptLaws.{kept-by-records}
-use Rattle.records.proofs.Walk.{all-remain, all-writes}
-use Rattle.records.proofs.Soundness.{Told, told-bytes, told-unsound}
+use Rattle.desk.specs.State.{log-records}
+use Rattle.desk.specs.Desk.{Desk, desk, chunk-size, chunks}
+use Rattle.desk.specs.declared.state.State.{State}
+use Rattle.desk.proofs.KeptLaws.{kept-by-records}
+use Rattle.desk.proofs.Walk.{all-remain, all-writes}
+use Rattle.desk.proofs.Soundness.{Told, told-bytes, told-unsound}
 use Rattle.writelog.specs.Cut.{desk-rows}
 use Rattle.writelog.proofs.CutLaws.{cut-unsound, cut-bad-rows, cut-good, cuts-done, cuts-refused}
 use Rattle.writelog.proofs.cut.cut.Statement.{statement}

@@ -5,10 +5,10 @@ use mathlib.Core.List.{List}
 use lib.ListN.{length}
 use borrow.Author.Needs.{needs}
 use Rattle.pieces.specs.AsyncSpec.{Write, committed, flush-writes}
-use Rattle.records.specs.Desk.{desk}
-use Rattle.records.specs.declared.state.State.{State}
-use Rattle.records.proofs.Walk.{all-remain, all-writes}
-use Rattle.records.proofs.Soundness.{Told, told-bytes, told-unsound}
+use Rattle.desk.specs.Desk.{desk}
+use Rattle.desk.specs.declared.state.State.{State}
+use Rattle.desk.proofs.Walk.{all-remain, all-writes}
+use Rattle.desk.proofs.Soundness.{Told, told-bytes, told-unsound}
 use Rattle.writelog.proofs.FlushLaws.{flushes-done, flushes-refused}
 use Rattle.writelog.proofs.flush.flush.Statement.{statement}
 use Rattle.writelog.proofs.flush.flush.Tie as tie

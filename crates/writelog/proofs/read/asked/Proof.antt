@@ -2,7 +2,7 @@
 use mathlib.Core.Path.{sym, _∙_}
 use borrow.Author.Tests.{not-true, not-false}
 use borrow.Author.Needs.{needs}
-use Rattle.records.proofs.Soundness.{Told, told-bytes, told-unsound}
+use Rattle.desk.proofs.Soundness.{Told, told-bytes, told-unsound}
 use Rattle.writelog.proofs.ReadLaws.{asked-unsound, asked-other-length, asked-outside, asked-inside}
 use Rattle.writelog.proofs.read.asked.Statement.{statement}
 use Rattle.writelog.proofs.read.asked.Tie as tie

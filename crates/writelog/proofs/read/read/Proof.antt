@@ -10,7 +10,7 @@ use Rattle.region.specs.Pmemspec.{extract-bytes}
 use Rattle.region.specs.Answer.{answer-number}
 use Rattle.region.proofs.AnswerLaws.{done-changed, refused-left, changed}
 use Rattle.pieces.specs.AsyncSpec.{readable}
-use Rattle.records.specs.Desk.{Desk, desk, view}
+use Rattle.desk.specs.Desk.{Desk, desk, view}
 use Rattle.writelog.specs.Read.{read-number}
 use Rattle.writelog.proofs.ReadLaws.{Asked, asked-done}
 use Rattle.writelog.proofs.read.read.Statement.{statement}

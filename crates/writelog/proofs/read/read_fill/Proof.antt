@@ -9,10 +9,10 @@ use Rattle.region.specs.Answer.{answer-number}
 use Rattle.region.proofs.AnswerLaws.{done-changed, refused-left}
 use Rattle.pieces.specs.AsyncSpec.{Write, committed, flush-writes}
 use Rattle.pieces.proofs.Laid.{update-whole}
-use Rattle.records.specs.Desk.{Desk, desk}
-use Rattle.records.specs.Log.{Remaining}
-use Rattle.records.proofs.Walk.{all-remain, all-writes}
-use Rattle.records.proofs.Soundness.{sound-facts}
+use Rattle.desk.specs.Desk.{Desk, desk}
+use Rattle.desk.specs.Log.{Remaining}
+use Rattle.desk.proofs.Walk.{all-remain, all-writes}
+use Rattle.desk.proofs.Soundness.{sound-facts}
 use Rattle.writelog.specs.Read.{read-number}
 use Rattle.writelog.proofs.ReadLaws.{Asked, asked-done}
 use Rattle.writelog.proofs.read.read_fill.Statement.{statement}

@@ -9,10 +9,10 @@ use Rattle.region.specs.declared.Refusal.the-variants.{BadState}
 use Rattle.region.specs.Pmemspec.{update-bytes}
 use Rattle.region.specs.Answer.{answer-number}
 use Rattle.pieces.specs.AsyncSpec.{Write, write-of}
-use Rattle.records.specs.State.{record-of}
-use Rattle.records.specs.Desk.{Desk, desk}
-use Rattle.records.proofs.RoomLaws.{room-done}
-use Rattle.records.proofs.Soundness.{Told, told-bytes, told-unsound, Room}
+use Rattle.desk.specs.State.{record-of}
+use Rattle.desk.specs.Desk.{Desk, desk}
+use Rattle.desk.proofs.RoomLaws.{room-done}
+use Rattle.desk.proofs.Soundness.{Told, told-bytes, told-unsound, Room}
 use Rattle.writelog.specs.Write.{write-number}
 use Rattle.writelog.proofs.WriteLaws.{write-unsound, write-sound, writes-done, writes-refused}
 use Rattle.writelog.proofs.write.write.Statement.{statement}
