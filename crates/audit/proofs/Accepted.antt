@@ -81,7 +81,8 @@ module _ {d : Desk} (a : Accepted d) where
   accepted-after-cut {table} p =
       either-way Accepted (cut-number d table) (p .leaves) (λ none. settled _ (length-flush-selective (chunk-size d) (view d) _)) a
 
-  pub accepted-after-gate : {sheet work : List ℕ} {w : Write} {answer : Verdict} {d′ : Desk} {work′ : List ℕ} → Gates d sheet work w answer d′ work′ → Accepted d′
+  pub accepted-after-gate : {sheet work : List ℕ} {w : Write} {answer : Verdict} {d′ : Desk} {work′ : List ℕ}
+      → Gates d sheet work w answer d′ work′ → Accepted d′
   accepted-after-gate {sheet} {work} {w} p =
       either-way Accepted (judge-number d sheet work w) (p .leaves)
       (λ none. let f = number-0-fits d sheet work w none .0 in recorded w (record { lies = f .lies; few = f .few-writes; fits = f .few-bytes })) a
@@ -100,10 +101,11 @@ work-fits-after-gate {d} {w = w} {answer} {work′ = work′} same g = go answer
     go (Denied m) e = ap length (gate-means g .denied-leaves m e) ∙ length-flush-selective (chunk-size d) (write (view d) w) _
     go (Refused why) e = ap length (gate-refused-left g e .1) ∙ same
 
--- and so for what a call by tape is lent; the predicted image has the image's length
+-- the same of what a call by tape is lent
 abbrev pub memory-accepted : TapeDesk → Type 0
 memory-accepted t = Accepted (t .memory)
 
+-- and its predicted image has the image's length
 abbrev pub predicted-fits : TapeDesk → Type 0
 predicted-fits t = length (t .predicted) ≡ length (t .memory .image)
 
@@ -135,13 +137,16 @@ module _ {t : TapeDesk} {tape : List ℕ} where
     predicted-fits-after-tape-cut p = either-way predicted-fits (tape-cut-number t tape) (p .leaves) (λ none. refl) same
 
   -- `inv` of the prophecy: after a done write by tape the epoch has a row for every write of the log, whole and rightly filled
-  pub rows-there-after-tape-write : {w : Write} {t′ : TapeDesk} → TapeWrites t tape w Done t′ → Epoch (chunks (t .memory)) (t′ .memory .state .count) tape (t .start)
+  pub rows-there-after-tape-write : {w : Write} {t′ : TapeDesk} → TapeWrites t tape w Done t′
+      → Epoch (chunks (t .memory)) (t′ .memory .state .count) tape (t .start)
   rows-there-after-tape-write p =
       let none = sym (p .answers) in
-      subst⁻¹ (λ (x : TapeDesk). Epoch (chunks (t .memory)) (x .memory .state .count) tape (t .start)) (changed t (p .leaves) none) (tape-write-done none .epoch)
+      subst⁻¹ (λ (x : TapeDesk). Epoch (chunks (t .memory)) (x .memory .state .count) tape (t .start)) (changed t (p .leaves) none)
+      (tape-write-done none .epoch)
 
 -- `inv` after the example's setup and run: the image keeps its length
-pub length-after-setup : (image : List ℕ) (addr val0 : ℕ) {answer : Answer} {image′ : List ℕ} → SetsUp image addr val0 answer image′ → length image′ ≡ length image
+pub length-after-setup : (image : List ℕ) (addr val0 : ℕ) {answer : Answer} {image′ : List ℕ}
+    → SetsUp image addr val0 answer image′ → length image′ ≡ length image
 length-after-setup image addr val0 p =
     either-way (λ x. length x ≡ length image) (setup-number image addr) (p .image-after) (λ none. length-set image addr val0) refl
 

@@ -70,14 +70,15 @@ sound-is-valid d e = inside-valid (length (d .image)) (log-records (d .state)) (
 module _ (d : Desk) (sized : length (d .state .records) ≡ writes-limit) where
   -- `crash` of pmem_async_equiv_t.rs, which promises nothing: the image that a done cut leaves is one that the original's `can_crash_as` allows, with
   -- the rows that were handed in
-  pub cut-leaves-a-crash : (table : List ℕ) {k : ℕ} {d′ : Desk} → Cuts d table (Kept k) d′ → can-crash-as (chunk-size d) (view d) (d′ .image) (desk-rows d table 0)
+  pub cut-leaves-a-crash : (table : List ℕ) {k : ℕ} {d′ : Desk} → Cuts d table (Kept k) d′
+      → can-crash-as (chunk-size d) (view d) (d′ .image) (desk-rows d table 0)
   unfolding cut-number
   cut-leaves-a-crash table p =
       let none : cut-number d table ≡ 0 = sym (same-number (p .answers)) in
       let facts = sound-facts _ (d .state) _ (passed _ none .0) in
       let rows = desk-rows d table 0 in
-      let shape : has-shape (chunks d) (length (view d .outstanding-writes)) rows =
-      subst⁻¹ (λ (n : ℕ). has-shape (chunks d) n rows) (writes-counted d (omega (arith, sized, facts .few))) (rows-at-shape (chunks d) (d .state .count) table 0) in
+      let counted = writes-counted d (omega (arith, sized, facts .few)) in
+      let shape = subst⁻¹ (λ (n : ℕ). has-shape (chunks d) n rows) counted (rows-at-shape (chunks d) (d .state .count) table 0) in
       subst⁻¹ (λ (x : Desk). can-crash-as (chunk-size d) (view d) (x .image) rows) (changed d (p .leaves) none)
       (shaped-rows-crash (chunk-size d) (view d) rows shape)
 

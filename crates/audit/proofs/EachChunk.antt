@@ -58,6 +58,7 @@ or-says-which C post pre addr bytes same not-neither =
     record {
       same-length = same;
       each-chunk = λ chunk. ⊎-elim inl
-          (λ as-before. ⊎-elim inr (λ as-written. absurd (not-neither chunk as-before as-written)) (chunk-corresponds-or-not C post (update-bytes pre addr bytes) chunk))
+          (λ as-before. ⊎-elim inr (λ as-written. absurd (not-neither chunk as-before as-written))
+          (chunk-corresponds-or-not C post (update-bytes pre addr bytes) chunk))
           (chunk-corresponds-or-not C post pre chunk);
     }

@@ -44,7 +44,8 @@ skaldrift-tape-write-pinned t tape w = pin (λ n. n) itself (λ n l p. p .does .
 pub skaldrift-tape-flush-pinned : (t : TapeLent) (tape : List ℕ) → Pinned (SkaldriftTapeFlush t tape)
 skaldrift-tape-flush-pinned t tape = pin (λ n. n) itself (λ n l p. p .does .answers) (λ n l p. p .does .leaves)
 
-pub skaldrift-tape-cut-pinned : (t : TapeLent) (tape : List ℕ) (report : ℕ) → Pinned (λ (n : ℕ) (l : TapeLent × ℕ). SkaldriftTapeCut t tape report n (l .0) (l .1))
+pub skaldrift-tape-cut-pinned : (t : TapeLent) (tape : List ℕ) (report : ℕ)
+    → Pinned (λ (n : ℕ) (l : TapeLent × ℕ). SkaldriftTapeCut t tape report n (l .0) (l .1))
 skaldrift-tape-cut-pinned t tape report = pin (λ n. n) itself (λ n l p. p .does .answers) (λ n l p i. (p .does .leaves i, p .reports i))
 
 pub skaldrift-setup-pinned : (image : List ℕ) (addr val0 : ℕ) → Pinned (SkaldriftSetup image addr val0)

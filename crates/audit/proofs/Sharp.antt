@@ -27,7 +27,8 @@ use Rattle.session.specs.Run.{opened}
 use Rattle.session.specs.Theorem.{Session}
 use Rattle.session.proofs.Theorem.{session}
 use Rattle.audit.proofs.Computing.{everything}
-use Rattle.audit.proofs.Worked.{zeros, eight-is-nine, any-state, any-log, aa, image-aa, log-aa, found-desk, fresh-desk, desk-aa, the-opening, the-admitted-write}
+use Rattle.audit.proofs.Worked.{zeros, eight-is-nine, any-state, any-log, aa, image-aa, log-aa}
+use Rattle.audit.proofs.Worked.{found-desk, fresh-desk, desk-aa, the-opening, the-admitted-write}
 
 -- the image that a cut by a table leaves
 abbrev left-by : Desk → (table : List ℕ) → List ℕ
