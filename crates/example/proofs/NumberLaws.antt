@@ -13,7 +13,7 @@ use Rattle.region.specs.Answer.{unless, answer-number, refusal-number}
 use Rattle.region.specs.declared.Answer.{Answer}
 use Rattle.region.specs.declared.Refusal.{Refusal}
 use Rattle.region.specs.declared.Answer.the-variants as answers
-use Rattle.region.proofs.AnswerLaws.{refusals-by-number, done-changed, refused-left, refusal-not-done, passed, go-on, stop}
+use Rattle.region.proofs.AnswerLaws.{refusals-by-number, done-changed, refused-left, refusal-not-done, passed, go-on, stop, both-none}
 use Rattle.region.proofs.Booleans.{both, cond-when, cond-unless}
 use Rattle.sheet.specs.Sheet.{well-formed, obeys}
 use Rattle.desk.specs.Desk.{Desk}
@@ -131,6 +131,11 @@ module _ (image log work : List ℕ) (addr val0 val1 rounds : ℕ) where
   pub run-unfit : (why : Refusal) → fits-number (length image) (length log) (length work) addr rounds ≡ refusal-number why → run-is ≡ refusal-number why
   unfolding run-number
   run-unfit why e = stop why judged e
+
+  -- number 0: the lengths fit, and the image is valid
+  pub run-0-fits : run-is ≡ 0 → Fit (length image) (length log) (length work) addr rounds × (app-valid addr val0 val1 image ≡ true)
+  unfolding run-number
+  run-0-fits e = let none = both-none {rest = judged} e in (number-0-fits _ _ _ addr rounds (none .0), passed 5 {rest = 0} (none .1) .0)
 
   module _ (f : Fit (length image) (length log) (length work) addr rounds) where
     run-fit : run-is ≡ judged
