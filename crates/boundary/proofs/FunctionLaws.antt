@@ -20,11 +20,15 @@ use Rattle.tape.specs.Memory.{TapeDesk, by-tape}
 use Rattle.tape.specs.Write.{TapeWrites}
 use Rattle.tape.specs.Flush.{TapeFlushes}
 use Rattle.tape.specs.Cut.{tape-cut-number, TapeCuts}
+use Rattle.example.specs.Setup.{SetsUp}
+use Rattle.example.specs.Run.{run-answer-number, Runs}
+use Rattle.example.specs.declared.RunAnswer.{RunAnswer}
 use Rattle.boundary.specs.Words.{state-of, words-of, reported}
 use Rattle.boundary.specs.Lent.{Lent, lent, desk-of, TapeLent, lent-by-tape, Crossing, plainly, on-tape, at-desk}
 use Rattle.boundary.specs.Log.{SkaldriftWrite, SkaldriftRead, SkaldriftFlush, SkaldriftCut}
 use Rattle.boundary.specs.Gate.{SkaldriftOpen, SkaldriftJudge, SkaldriftGate}
 use Rattle.boundary.specs.Tape.{SkaldriftTapeWrite, SkaldriftTapeFlush, SkaldriftTapeCut}
+use Rattle.boundary.specs.Example.{SkaldriftSetup, SkaldriftRun}
 use Rattle.boundary.proofs.CallLaws.{state-sized, plain-laws, tape-laws, refused-at, refused-by, called-at, called-by, wrong, right}
 
 -- a desk with this state, and one that lends these words
@@ -162,3 +166,13 @@ module _ {t t′ : TapeLent} {tape : List ℕ} {number : ℕ} (sized : state-siz
         does = right tape-laws sized there (told ∙ ap number-told (call .answers)) (call .leaves) (ap (tape-lent-with t′) stored);
         reports = reports-kept on-tape t sized (λ d. tape-cut-number d tape) kept-of answer held there (call .answers) reports;
       }
+
+-- the example's, which are handed no state
+pub setup-right : {image : List ℕ} {addr val0 number : ℕ} {image′ : List ℕ} {answer : Answer} → number ≡ answer-number answer
+    → SetsUp image addr val0 answer image′ → SkaldriftSetup image addr val0 number image′
+setup-right told call = record { answers = told ∙ call .answers; image-after = call .image-after }
+
+pub run-right : {image log work : List ℕ} {addr val0 val1 rounds number : ℕ} {image′ log′ work′ : List ℕ} {answer : RunAnswer}
+    → number ≡ run-answer-number answer → Runs image log work addr val0 val1 rounds answer image′ log′ work′
+    → SkaldriftRun image log work addr val0 val1 rounds number image′ log′ work′
+run-right told call = record { answers = told ∙ call .answers; image-after = call .image-after; log-after = call .log-after; work-after = call .work-after }

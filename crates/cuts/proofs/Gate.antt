@@ -66,7 +66,7 @@ module _ (C : ℕ) (C⁺ : 0 < C) (v : AsyncView) (w : Write) where
   pub last-trial-is-the-read-image : choice-image C (write v w) (gate-numbers C v w - 1) ≡ gate-image C v w none-bad
   last-trial-is-the-read-image = last-number-leaves-the-read-image C C⁺ (write v w)
 
--- the meaning leaves no choice: any two verdicts that judge so are one
+-- the meaning leaves no choice: any two findings that judge so are one
 pub judges-pairs-pins : (C : ℕ) (rule : Test) (v : AsyncView) (w : Write) (r r′ : Finding)
     → judges-pairs C rule v w r → judges-pairs C rule v w r′ → r ≡ r′
 judges-pairs-pins C rule v w none-bad r′ j j′ = sym (j′ .admits .1 (j .admits .0 refl))

@@ -1,4 +1,4 @@
--- The search admits exactly if every number passes, and denies with m exactly if m is the least that fails. Assumes nothing.
+-- A search finds none bad exactly if every number passes, and m exactly if m is the least that fails. Assumes nothing.
 use Prim.Native.Nat.{ℕ, zero, suc, _+_, _≤_, _<_}
 use native.Mathlib.Decide.{decLt}
 use native.Mathlib.Omega.{arith}

@@ -1,5 +1,5 @@
--- When a search over numbers judges all that could really come about, whatever engine picks the numbers. A rule judges two images, the one before
--- a write and the one after.
+-- When a search over numbers judges all that could really come about, whatever engine picks the numbers. A rule is a test of two images, the one
+-- before a write and the one after.
 use Prim.Native.Nat.{ℕ, _<_}
 use mathlib.Core.Path.{_≡_}
 use mathlib.Core.Bool.{Bool}

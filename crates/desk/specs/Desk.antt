@@ -1,4 +1,4 @@
--- The memory of a desk, as one thing: what every promise, number and law speaks of. What a call is lent beside it, a sheet, a working image, a table, a
+-- The memory of a desk, as one thing: what the promises, numbers and laws of every call that is handed a state speak of. What a call is lent beside it, a sheet, a working image, a table, a
 -- tape, a predicted image, is the call's own.
 use Prim.Native.Nat.{ℕ}
 use mathlib.Core.Bool.{Bool}
@@ -7,7 +7,7 @@ use lib.ListN.{length}
 use Rattle.region.specs.Limits.{const-persistence-chunk-size}
 use Rattle.region.specs.Pmemspec.{update-bytes}
 use Rattle.pieces.specs.AsyncSpec.{Write, AsyncView, size-to-chunks}
-use Rattle.desk.specs.State.{log-records, together, writes-of, sound-for, record-of, appended, emptied, fresh}
+use Rattle.desk.specs.State.{log-records, together, writes-of, sound-for, record-of, room-number, appended, emptied, fresh}
 use Rattle.desk.specs.declared.state.State.{State}
 
 -- the image at the last flush, the state, and the log buffer
@@ -34,6 +34,10 @@ view d = record { state-at-last-flush = d .image; outstanding-writes = writes-of
 -- refusal 1, as far as every call meets it
 abbrev pub sound : Desk → Bool
 sound d = sound-for (length (d .image)) (d .state) (length (d .log))
+
+-- 2, 3 or 4, or 0 where there is room for the write
+abbrev pub room-for : Desk → Write → ℕ
+room-for d w = room-number (length (d .image)) (d .state) (record-of w)
 
 -- the desk with one write more: its record at index count, its bytes behind the outstanding ones
 abbrev pub with-write : Desk → Write → Desk

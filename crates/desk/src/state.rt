@@ -1,5 +1,6 @@
-// The state: the outstanding writes' records, what it is at the start, and how a call changes it. Their bytes lie in the log buffer, packed oldest
-// first, so that where a record's bytes begin is the sum of the lengths before it.
+// The state: the outstanding writes' records, what it is at the start, and how a call changes it.
+// Their bytes lie in the log buffer, packed oldest first, so that where a record's bytes begin is the
+// sum of the lengths before it.
 use records::Record;
 use records::record_list::record_in;
 use records::record_list::records_with;

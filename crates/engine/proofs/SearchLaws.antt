@@ -1,5 +1,5 @@
 -- The search's loop over choice numbers. Once the numbers below m are tried, the working image is the last trial, and what remains to be tried from m on
--- settles the verdict. Assumes nothing.
+-- settles the finding. Assumes nothing.
 use Prim.Native.Nat.{ℕ, suc, _+_, _-_, _*_, _%_, _^_, _≤_, _<_}
 use native.Mathlib.Nat.{one-mul, sub-zero}
 use native.Mathlib.Numerals.{add-one}

@@ -16,7 +16,7 @@ use Rattle.pieces.specs.AsyncSpec.{Write, write, readable}
 use Rattle.cuts.proofs.Always.{cut-of-nothing}
 use Rattle.sheet.specs.Sheet.{allows}
 use Rattle.desk.specs.State.{record-of, room-number}
-use Rattle.desk.specs.Desk.{Desk, chunk-size, view, with-write, settled-desk, opened-desk}
+use Rattle.desk.specs.Desk.{Desk, chunk-size, view, with-write, settled-desk, opened-desk, room-for}
 use Rattle.desk.proofs.Soundness.{Sound, sound-facts, Room}
 use Rattle.desk.proofs.Views.{view-of-recorded, sound-after-recorded, sized-of-appended, view-of-settled, sound-after-settled}
 use Rattle.gate.specs.declared.Verdict.{Verdict}
@@ -79,7 +79,7 @@ module _ {d : Desk} {sheet work : List ℕ} {w : Write} where
   -- an admitted judging call: there is room for the write, which another call may record at that same desk
   pub judged-holds : {answer : Verdict} {work′ : List ℕ} → length (d .state .records) ≡ writes-limit → Judges d sheet work w answer work′
       → {n : ℕ} → answer ≡ Admitted n
-      → (room-number (length (d .image)) (d .state) (record-of w) ≡ 0) × (view (with-write d w) ≡ write (view d) w) × Holds (with-write d w) sheet
+      → (room-for d w ≡ 0) × (view (with-write d w) ≡ write (view d) w) × Holds (with-write d w) sheet
   judged-holds sized j {n} a =
       let means = judge-means j .admits .0 (n, a) in
       let held = recorded-holds sized (means .0) (means .1) in

@@ -19,7 +19,7 @@ use Rattle.cuts.specs.Search as search
 use Rattle.sheet.specs.Sheet.{well-formed}
 use Rattle.pieces.specs.AsyncSpec.{Write}
 use Rattle.desk.specs.State.{record-of}
-use Rattle.desk.specs.Desk.{Desk, sound, with-write}
+use Rattle.desk.specs.Desk.{Desk, sound, room-for, with-write}
 use Rattle.desk.proofs.RoomLaws.{room-done, room-there}
 use Rattle.engine.specs.declared.search.Outcome.{Outcome}
 use Rattle.engine.specs.declared.search.Outcome.the-variants.{AllGood, FirstBad}
@@ -28,7 +28,7 @@ use Rattle.gate.specs.declared.Verdict.{Verdict}
 use Rattle.gate.specs.declared.Verdict.the-variants.{Admitted, Denied, Refused}
 use Rattle.gate.specs.Meaning.{Fits}
 use Rattle.gate.specs.Judgement.{denied-number, verdict-report, Judgement, refused, tried, judgement-report, judgement-work}
-use Rattle.gate.specs.Judgement.{gate-points, room-for, weighed, fitted, judgement, judge-report, judge-number, Judges, Gates, Weighs}
+use Rattle.gate.specs.Judgement.{gate-points, weighed, fitted, judgement, judge-report, judge-number, Judges, Gates, Weighs}
 
 -- the tests of a judgement, as bare values: all are passed, or one refuses, with a number above 0
 abbrev tests : Bool → Bool → ℕ → Bool → search.Finding → Judgement

@@ -14,8 +14,8 @@ use Rattle.pieces.specs.AsyncSpec.{Write, write}
 use Rattle.cuts.specs.Number.{choice-points}
 use Rattle.cuts.specs.Search as search
 use Rattle.sheet.specs.Sheet.{well-formed}
-use Rattle.desk.specs.State.{log-records, together, record-of, room-number}
-use Rattle.desk.specs.Desk.{Desk, chunk-size, view, sound, with-write}
+use Rattle.desk.specs.State.{log-records, together}
+use Rattle.desk.specs.Desk.{Desk, chunk-size, view, sound, room-for, with-write}
 use Rattle.engine.specs.Search.{sheet-finding, sheet-image}
 use Rattle.gate.specs.declared.Verdict.{Verdict}
 use Rattle.gate.specs.declared.Verdict.the-variants.{Admitted, Denied, Refused}
@@ -49,10 +49,6 @@ judgement-work d w work (tried r) = sheet-image d w r
 -- n: the choice points with the new write in the log
 abbrev pub gate-points : Desk → Write → ℕ
 gate-points d w = choice-points (chunk-size d) (write (view d) w)
-
--- 2, 3 or 4, or 0 where there is room for the write
-abbrev pub room-for : Desk → Write → ℕ
-room-for d w = room-number (length (d .image)) (d .state) (record-of w)
 
 module _ (d : Desk) (sheet : List ℕ) (w : Write) where
   -- from 7 on

@@ -1,2 +1,2 @@
-// No code: what the functions that a desk links promise, and that a run of them is a run of the
-// library's calls, so that its theorems hold of them. `skaldrift` has the functions.
+// No code: a run of the functions that a desk links is a run of the library's calls, so that its
+// theorems hold of them. `boundary` has what the functions promise, `skaldrift` the functions.

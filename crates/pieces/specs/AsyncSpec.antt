@@ -1,6 +1,6 @@
--- Renders pmem_async_spec_t.rs, under the same names with hyphens: the image at the last flush with the outstanding writes over it. The chunk size
--- is the argument C. `data` is a word of antt, so a write's bytes are its field `bytes`. `size_to_chunks` stands in `region`, where code needs it
--- first, and is passed on from here.
+-- Renders pmem_async_spec_t.rs, under the same names with hyphens but for `valid`: the image at the last flush with the outstanding writes over it. The
+-- chunk size is the argument C. `data` is a word of antt, so a write's bytes are its field `bytes`. `size_to_chunks` stands in `region`, where code
+-- needs it first, and is passed on from here.
 use Prim.Native.Nat.{ℕ, _+_, _-_, _/_, _≤_, _<_}
 use mathlib.Core.Path.{_≡_}
 use mathlib.Core.Bool.{Bool, false, cond, _&&_}

@@ -47,8 +47,8 @@ list-tells = array-tells R vals tells writes-limit
 pub all-there : (xs : List Record) → Is Records xs (of-list xs ∷ []) → length xs ≡ writes-limit
 all-there xs is = is .1 .0 .1
 
-room-for : (xs : List Record) → length xs ≡ writes-limit → Room R (length xs)
-room-for xs e = subst (Room R) (sym e) (lit< tt, lit< tt)
+fits-in-memory : (xs : List Record) → length xs ≡ writes-limit → Room R (length xs)
+fits-in-memory xs e = subst (Room R) (sym e) (lit< tt, lit< tt)
 
 -- the slice of all the records at the base b, under the name γ, and its machine value
 abbrev pub lent : (b : ℕ) (γ : GName) (xs : List Record) → RefT (List Record)
@@ -101,7 +101,7 @@ module _ {M : Type 1} {𝓤 : URA M} {H : Heap 𝓤} {A : Atoms 𝓤} {K : Type 
   lends-shared t z b xs is k =
       use1 W (‵ (row R fullShare xs b 0)) (taken 𝓤 H A W b xs is) $ lft-new t z (λ α. move t (1 ∷ []) $ feqI t ℕ (length xs) (length xs) refl $ fjoin t $
       use1 W (later (some (λ (γ : GName). ‵ (ShrSlice (named 0) (α ∷ []) R .own (lent b γ xs) (slice b xs ∷ [])) ⊛ ‵ (flent (α ∷ []) (shared-part b xs)))))
-      (lends-shr-slice 𝓤 H A W R (named 0) (α ∷ []) fullShare xs b 0 (room-for xs (all-there xs is))) $
+      (lends-shr-slice 𝓤 H A W R (named 0) (α ∷ []) fullShare xs b 0 (fits-in-memory xs (all-there xs is))) $
       await t z $ pick t (λ γ. split t $ move t (2 ∷ 0 ∷ []) $ k α γ))
 
   pub shared-back : K → Soaks G → {α : ℕ} (b : ℕ) (xs : List Record) → length xs ≡ writes-limit
@@ -118,7 +118,7 @@ module _ {M : Type 1} {𝓤 : URA M} {H : Heap 𝓤} {A : Atoms 𝓤} {K : Type 
       use1 W (‵ (row R fullShare xs b 0)) (taken 𝓤 H A W b xs is) $ lft-new t z (λ α. move t (1 ∷ []) $
       use1 W (‵ (cells (mem R) xs b 0)) (whole-in 𝓤 H A W R xs b 0) $
       use1 W (later (some (λ (γ : GName). ‵ (MutSlice (named 0) (α ∷ []) R .own (lent b γ xs) (slice b xs ∷ [])) ⊛ ‵ (flent (α ∷ []) (Held R (length xs) b 0 γ)))))
-      (lends-slice 𝓤 H A W R (named 0) (α ∷ []) xs b 0 (room-for xs (all-there xs is))) $
+      (lends-slice 𝓤 H A W R (named 0) (α ∷ []) xs b 0 (fits-in-memory xs (all-there xs is))) $
       await t z $ pick t (λ γ. split t $ move t (2 ∷ 0 ∷ []) $ k α γ))
 
   pub mutable-back : K → Soaks G → {α : ℕ} {γ : GName} (b n : ℕ) (xs : List Record) → length xs ≡ writes-limit

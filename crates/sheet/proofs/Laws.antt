@@ -1,11 +1,16 @@
 -- What a caller of `judge` goes by. The answer is malformed by the sheet alone, and otherwise obeys or breaks as the sheet's rule says; a
 -- sheet of edition 1 doesn't look at the image before. Assumes nothing.
+use Prim.Native.Nat.{ℕ, _≤_, _<_}
+use native.Mathlib.Decide.{decLe}
+use native.Mathlib.Omega.{arith}
 use mathlib.Core.Path.{_≡_, refl, ap, _∙_}
 use mathlib.Core.Logic.{_↔_}
-use mathlib.Core.Bool.{Bool, true, false}
+use mathlib.Core.Bool.{Bool, true, false, _&&_}
 use mathlib.Core.List.{List}
 use mathlib.Core.Option.{Option, none, some}
-use Prim.Native.Nat.{ℕ}
+use lib.Dec.{leb, ltb}
+use lib.ListN.{length, getD}
+use borrow.Author.Tests.{le-leb, lt-leb}
 use Rattle.sheet.specs.Sheet.{Clause, range, same, Rule, clause, group, Rules, nil, cons, Kind, clause-holds, join, holds, members-hold, read-sheet, well-formed, obeys, rule-holds, is-rule, judged-by, judged}
 use Rattle.sheet.specs.declared.Judged.the-variants.{Malformed, Obeys, Breaks}
 
@@ -85,3 +90,13 @@ malformed-is-not-obeyed s before after = go (read-sheet s)
     go : (r : Option Rule) → is-rule r ≡ false → rule-holds r before after ≡ false
     go none e = refl
     go (some r) e = cc
+
+-- "With low above high it is never true."
+pub low-above-high : (a low high : ℕ) (before after : List ℕ) → high < low → clause-holds (range a low high) before after ≡ false
+unfolding clause-holds
+low-above-high a low high before after h = go (ltb a (length after)) (decLe low (getD after a 0))
+  where
+    go : (inside : Bool) → Dec (low ≤ getD after a 0) → inside && (leb low (getD after a 0) && leb (getD after a 0) high) ≡ false
+    go false d = refl
+    go true (yes above) = rw (le-leb low (getD after a 0) above) (lt-leb (getD after a 0) high (omega arith))
+    go true (no below) = rw (lt-leb low (getD after a 0) (omega arith))

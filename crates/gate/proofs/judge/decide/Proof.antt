@@ -7,10 +7,9 @@ use borrow.Author.Needs.{needs}
 use Rattle.region.specs.Answer.{answer-number}
 use Rattle.sheet.specs.Sheet.{well-formed}
 use Rattle.pieces.specs.AsyncSpec.{Write, write-of}
-use Rattle.desk.specs.Desk.{Desk, desk}
+use Rattle.desk.specs.Desk.{Desk, desk, room-for}
 use Rattle.desk.proofs.Soundness.{sound-facts}
 use Rattle.desk.proofs.RoomLaws.{room-done}
-use Rattle.gate.specs.Judgement.{room-for}
 use Rattle.gate.proofs.JudgementLaws.{judges-other-length, judges-malformed, judges-no-room, judges-weighed}
 use Rattle.gate.proofs.judge.decide.Statement.{statement}
 use Rattle.gate.proofs.judge.decide.Tie as tie
