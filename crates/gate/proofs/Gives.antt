@@ -15,7 +15,7 @@ use Rattle.region.proofs.AnswerLaws.{answers-by-number, changed, left, refusal-
 use Rattle.pieces.specs.AsyncSpec.{Write, write, readable}
 use Rattle.cuts.proofs.Always.{cut-of-nothing}
 use Rattle.sheet.specs.Sheet.{allows}
-use Rattle.desk.specs.State.{record-of, room-number}
+use Rattle.desk.specs.State.{record-of}
 use Rattle.desk.specs.Desk.{Desk, chunk-size, view, with-write, settled-desk, opened-desk, room-for}
 use Rattle.desk.proofs.Soundness.{Sound, sound-facts, Room}
 use Rattle.desk.proofs.Views.{view-of-recorded, sound-after-recorded, sized-of-appended, view-of-settled, sound-after-settled}
