@@ -16,12 +16,12 @@ use Rattle.cuts.specs.Number.{choice-points}
 use Rattle.cuts.proofs.Choices.{points-of-one-more}
 use Rattle.desk.specs.State.{log-records, together, writes-of, records-inside}
 use Rattle.desk.specs.Desk.{Desk, chunk-size, view, sound}
-use Rattle.desk.specs.Log.{last-records, Remaining}
+use Rattle.walks.specs.Log.{last-records, Remaining}
 use Rattle.records.specs.declared.Record.{Record}
 use Rattle.desk.specs.declared.state.State.{State}
 use Rattle.desk.proofs.Records.{next-and-rest}
-use Rattle.desk.proofs.Walk.{oldest}
-use Rattle.desk.proofs.KeptLaws.{touched-le}
+use Rattle.walks.proofs.Walk.{oldest}
+use Rattle.walks.proofs.KeptLaws.{touched-le}
 use Rattle.desk.proofs.Soundness.{sound-facts}
 use Rattle.engine.specs.Count.{record-points}
 

@@ -12,10 +12,10 @@ use Rattle.pieces.specs.Choice.{touched, row-of, rows-of}
 use Rattle.cuts.specs.Number.{choice-points}
 use Rattle.cuts.proofs.Pairs.{choice-of-a-write}
 use Rattle.desk.specs.Desk.{Desk, chunk-size, view}
-use Rattle.desk.specs.Log.{last-writes, Remaining}
+use Rattle.walks.specs.Log.{last-writes, Remaining}
 use Rattle.desk.specs.declared.state.State.{State}
 use Rattle.desk.proofs.Soundness.{sound-facts}
-use Rattle.desk.proofs.Walk.{oldest, no-more, step, piece-is, all-writes, all-remain}
+use Rattle.walks.proofs.Walk.{oldest, no-more, step, piece-is, all-writes, all-remain}
 use Rattle.engine.specs.Search.{Ready, trial-image}
 use Rattle.engine.proofs.PointLaws.{points-of-the-log, piece-length}
 

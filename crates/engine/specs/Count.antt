@@ -9,7 +9,7 @@ use Rattle.region.specs.Limits.{image-limit, writes-limit, log-limit}
 use Rattle.pieces.specs.AsyncSpec.{size-to-chunks, flush-writes-selective}
 use Rattle.pieces.specs.Choice.{touched, rows-of}
 use Rattle.desk.specs.State.{log-records, together, records-inside}
-use Rattle.desk.specs.Log.{last-writes}
+use Rattle.walks.specs.Log.{last-writes}
 use Rattle.records.specs.declared.Record.{Record}
 use Rattle.desk.specs.declared.state.State.{State}
 

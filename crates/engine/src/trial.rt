@@ -11,7 +11,7 @@ ghost use Rattle.region.specs.Limits.{const-persistence-chunk-size, points-limi
 ghost use Rattle.pieces.specs.AsyncSpec.{write-of};
 ghost use Rattle.pieces.specs.Choice.{touched};
 ghost use Rattle.desk.specs.Desk.{desk};
-ghost use Rattle.desk.specs.Log.{last-records, Remaining};
+ghost use Rattle.walks.specs.Log.{last-records, Remaining};
 ghost use Rattle.engine.specs.Count.{record-points, replayed-by-choice};
 ghost use Rattle.engine.specs.Search.{Ready, trial-image};
 

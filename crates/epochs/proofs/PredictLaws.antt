@@ -7,8 +7,8 @@ use lib.ListN.{length}
 use Rattle.region.proofs.Booleans.{cond-when, cond-unless}
 use Rattle.pieces.specs.AsyncSpec.{Write, AsyncView, size-to-chunks, committed, readable, flush-writes, flush-writes-selective, flush-selective}
 use Rattle.desk.specs.Desk.{Desk, chunk-size, chunks, view}
-use Rattle.desk.specs.Log.{last-writes, replayed-whole, replayed-by-rows}
-use Rattle.desk.proofs.Walk.{all-writes}
+use Rattle.walks.specs.Log.{last-writes, replayed-whole, replayed-by-rows}
+use Rattle.walks.proofs.Walk.{all-writes}
 use Rattle.desk.proofs.Views.{writes-counted}
 use Rattle.epochs.specs.Epoch.{flush-foretold, epoch-rows}
 use Rattle.epochs.specs.Foretold.{predicted-image, predicted-now}

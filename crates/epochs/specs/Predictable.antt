@@ -5,7 +5,7 @@ use mathlib.Core.List.{List}
 use lib.ListN.{length}
 use Rattle.region.specs.Limits.{image-limit}
 use Rattle.desk.specs.Desk.{Desk, chunks}
-use Rattle.desk.specs.Log.{Remaining}
+use Rattle.walks.specs.Log.{Remaining}
 use Rattle.epochs.specs.Epoch.{row-place}
 
 pub record Predictable (d : Desk) (tape : List ℕ) (start predicted-length : ℕ) : Type 0 where

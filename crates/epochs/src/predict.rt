@@ -1,7 +1,7 @@
 // The predicted image, computed from image, log and rows each time, whatever the buffer held.
 use crate::epoch::flush_foretold;
-use desk::log::replay_selected;
-use desk::log::replay_whole;
+use walks::log::replay_selected;
+use walks::log::replay_whole;
 use desk::state::State;
 use pieces::lay::lay;
 use pieces::rows::row_bytes;

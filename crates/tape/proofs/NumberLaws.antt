@@ -14,13 +14,13 @@ use Rattle.region.proofs.Booleans.{cond-when, cond-unless, and-when, and-unless
 use Rattle.pieces.specs.AsyncSpec.{Write, size-to-chunks}
 use Rattle.desk.specs.State.{sound-for, record-of, room-number}
 use Rattle.desk.specs.Desk.{chunk-size, chunks, sound, with-write}
-use Rattle.desk.specs.Log.{KeptFrom}
+use Rattle.walks.specs.Log.{KeptFrom}
 use Rattle.records.specs.declared.Record.{Record}
 use Rattle.desk.specs.declared.state.State.{State}
 use Rattle.desk.proofs.RoomLaws.{room-done}
 use Rattle.desk.proofs.Soundness.{SoundFor, Sound, sound-facts, Room}
 use Rattle.desk.proofs.Views.{sized-of-appended, sound-after-recorded}
-use Rattle.desk.proofs.Walk.{all-remain}
+use Rattle.walks.proofs.Walk.{all-remain}
 use Rattle.writelog.specs.Write.{write-number}
 use Rattle.writelog.proofs.WriteLaws.{write-sound}
 use Rattle.epochs.specs.Epoch.{flush-foretold, epoch-number}

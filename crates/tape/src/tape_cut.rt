@@ -1,6 +1,6 @@
 // The cut by tape.
 use crate::ending::end_epoch;
-use desk::log::kept;
+use walks::log::kept;
 use desk::state::State;
 use region::Answer;
 use writelog::cut::CutAnswer;

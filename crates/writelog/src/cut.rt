@@ -1,6 +1,6 @@
 // The cut.
-use desk::log::kept;
-use desk::log::replay_selected;
+use walks::log::kept;
+use walks::log::replay_selected;
 use desk::state::Outstanding;
 use desk::state::State;
 use desk::state::checked;

@@ -1,5 +1,5 @@
 // The flush.
-use desk::log::replay_whole;
+use walks::log::replay_whole;
 use desk::state::Outstanding;
 use desk::state::State;
 use desk::state::checked;

@@ -1,5 +1,5 @@
 // The read, and the number of the same question.
-use desk::log::replay_whole;
+use walks::log::replay_whole;
 use desk::state::Outstanding;
 use desk::state::State;
 use desk::state::checked;

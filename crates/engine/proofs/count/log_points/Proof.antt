@@ -15,7 +15,7 @@ use Rattle.desk.specs.State.{log-records, together, records-inside}
 use Rattle.records.specs.declared.Record.{Record}
 use Rattle.desk.specs.declared.state.State.{State}
 use Rattle.desk.proofs.Records.{next, rest, next-and-rest, together-more, inside-more, records-none}
-use Rattle.desk.proofs.KeptLaws.{touched-le}
+use Rattle.walks.proofs.KeptLaws.{touched-le}
 use Rattle.engine.specs.Count.{record-points}
 use Rattle.engine.proofs.count.log_points.Statement.{statement}
 use Rattle.engine.proofs.count.log_points.Tie as tie

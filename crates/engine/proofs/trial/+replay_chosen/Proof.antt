@@ -8,8 +8,8 @@ use borrow.Fn.Kinds.{In}
 use borrow.Fn.PlainCycle.{Measures, is, falls, and}
 use Rattle.region.specs.Limits.{points-limit}
 use Rattle.pieces.specs.Choice.{touched}
-use Rattle.desk.specs.Log.{last-records}
-use Rattle.desk.proofs.Walk.{oldest, Step, step}
+use Rattle.walks.specs.Log.{last-records}
+use Rattle.walks.proofs.Walk.{oldest, Step, step}
 use Rattle.engine.specs.Count.{record-points}
 use Rattle.engine.proofs.PointLaws.{piece-length, points-more}
 use Rattle.engine.proofs.TrialLaws.{replay-none, replay-step}

@@ -9,7 +9,7 @@ use Rattle.pieces.specs.AsyncSpec.{Write, write-of}
 use Rattle.desk.specs.State.{log-records}
 use Rattle.desk.specs.Desk.{Desk, desk}
 use Rattle.desk.proofs.Soundness.{Sound, sound-facts}
-use Rattle.desk.proofs.KeptLaws.{touched-le}
+use Rattle.walks.proofs.KeptLaws.{touched-le}
 use Rattle.engine.proofs.PointLaws.{inside-longer, record-points-le, points-with-a-write}
 use Rattle.gate.specs.Judgement.{gate-points}
 use Rattle.gate.proofs.JudgementLaws.{weighs-many, weighs-admitted, weighs-denied}

@@ -15,8 +15,8 @@ use Rattle.pieces.specs.AsyncSpec.{Write, flush-writes-selective}
 use Rattle.desk.specs.State.{log-records}
 use Rattle.desk.specs.Desk.{Desk, desk, chunk-size, chunks}
 use Rattle.desk.specs.declared.state.State.{State}
-use Rattle.desk.proofs.KeptLaws.{kept-by-records}
-use Rattle.desk.proofs.Walk.{all-remain, all-writes}
+use Rattle.walks.proofs.KeptLaws.{kept-by-records}
+use Rattle.walks.proofs.Walk.{all-remain, all-writes}
 use Rattle.desk.proofs.Soundness.{Told, told-bytes, told-unsound}
 use Rattle.writelog.specs.Cut.{desk-rows}
 use Rattle.writelog.proofs.CutLaws.{cut-unsound, cut-bad-rows, cut-good, cuts-done, cuts-refused}

@@ -7,7 +7,7 @@ use borrow.Author.Needs.{needs}
 use Rattle.pieces.specs.AsyncSpec.{Write, committed, flush-writes}
 use Rattle.desk.specs.Desk.{desk}
 use Rattle.desk.specs.declared.state.State.{State}
-use Rattle.desk.proofs.Walk.{all-remain, all-writes}
+use Rattle.walks.proofs.Walk.{all-remain, all-writes}
 use Rattle.desk.proofs.Soundness.{Told, told-bytes, told-unsound}
 use Rattle.writelog.proofs.FlushLaws.{flushes-done, flushes-refused}
 use Rattle.writelog.proofs.flush.flush.Statement.{statement}

@@ -10,8 +10,8 @@ use Rattle.region.proofs.AnswerLaws.{done-changed, refused-left}
 use Rattle.pieces.specs.AsyncSpec.{Write, committed, flush-writes}
 use Rattle.pieces.proofs.Laid.{update-whole}
 use Rattle.desk.specs.Desk.{Desk, desk}
-use Rattle.desk.specs.Log.{Remaining}
-use Rattle.desk.proofs.Walk.{all-remain, all-writes}
+use Rattle.walks.specs.Log.{Remaining}
+use Rattle.walks.proofs.Walk.{all-remain, all-writes}
 use Rattle.desk.proofs.Soundness.{sound-facts}
 use Rattle.writelog.specs.Read.{read-number}
 use Rattle.writelog.proofs.ReadLaws.{Asked, asked-done}

@@ -1,4 +1,4 @@
--- `desk::log::replay_selected` meets its contract, as `replay_whole` does, with the rows that keep the remaining writes' chunks. Assumes nothing.
+-- `walks::log::replay_selected` meets its contract, as `replay_whole` does, with the rows that keep the remaining writes' chunks. Assumes nothing.
 use Prim.Native.Nat.{ℕ, _+_, _-_, _*_, _≤_, _<_}
 use native.Mathlib.Omega.{arith}
 use native.Mathlib.Nat.{pos-of-ne-zero}
@@ -11,14 +11,14 @@ use Rattle.region.specs.Limits.{const-persistence-chunk-size}
 use Rattle.pieces.specs.AsyncSpec.{Write, size-to-chunks, flush-writes-selective}
 use Rattle.pieces.specs.Rows.{rows-at}
 use Rattle.pieces.proofs.RowBits.{one-less}
-use Rattle.desk.proofs.Walk.{StepBy, step-by, no-more, piece-le, selected-step}
+use Rattle.walks.proofs.Walk.{StepBy, step-by, no-more, piece-le, selected-step}
 use Rattle.pieces.proofs.lay.lay_selected.Reads as lay-selected-reads
 use Rattle.desk.proofs.state.record_at.Reads as record-at-reads
-use Rattle.desk.proofs.log.replay_selected.Reads as own
-use Rattle.desk.proofs.log.replay_selected.Kinds as kinds
-use Rattle.desk.proofs.log.+replay_selected.Lts-replay_selected as lts
-use Rattle.desk.proofs.log.+replay_selected.{statement}
-use Rattle.desk.proofs.log.+replay_selected.Tie.{close}
+use Rattle.walks.proofs.log.replay_selected.Reads as own
+use Rattle.walks.proofs.log.replay_selected.Kinds as kinds
+use Rattle.walks.proofs.log.+replay_selected.Lts-replay_selected as lts
+use Rattle.walks.proofs.log.+replay_selected.{statement}
+use Rattle.walks.proofs.log.+replay_selected.Tie.{close}
 
 abbrev C : ℕ
 C = const-persistence-chunk-size

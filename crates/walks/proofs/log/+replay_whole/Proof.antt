@@ -1,4 +1,4 @@
--- `desk::log::replay_whole` meets its contract: what the remaining writes, laid over what is there now, give is the answer; each step looks the oldest
+-- `walks::log::replay_whole` meets its contract: what the remaining writes, laid over what is there now, give is the answer; each step looks the oldest
 -- one's record up and lays its bytes. Assumes nothing.
 use Prim.Native.Nat.{ℕ, _<_}
 use native.Mathlib.Omega.{arith}
@@ -9,14 +9,14 @@ use lib.ListN.{length}
 use borrow.Fn.Kinds.{In}
 use borrow.Fn.PlainCycle.{Measures, is, falls, and}
 use Rattle.pieces.specs.AsyncSpec.{Write, committed, flush-writes}
-use Rattle.desk.proofs.Walk.{StepBy, step-by, no-more, piece-le, whole-step}
+use Rattle.walks.proofs.Walk.{StepBy, step-by, no-more, piece-le, whole-step}
 use Rattle.pieces.proofs.lay.lay.Reads as lay-reads
 use Rattle.desk.proofs.state.record_at.Reads as record-at-reads
-use Rattle.desk.proofs.log.replay_whole.Reads as own
-use Rattle.desk.proofs.log.replay_whole.Kinds as kinds
-use Rattle.desk.proofs.log.+replay_whole.Lts-replay_whole as lts
-use Rattle.desk.proofs.log.+replay_whole.{statement}
-use Rattle.desk.proofs.log.+replay_whole.Tie.{close}
+use Rattle.walks.proofs.log.replay_whole.Reads as own
+use Rattle.walks.proofs.log.replay_whole.Kinds as kinds
+use Rattle.walks.proofs.log.+replay_whole.Lts-replay_whole as lts
+use Rattle.walks.proofs.log.+replay_whole.{statement}
+use Rattle.walks.proofs.log.+replay_whole.Tie.{close}
 
 -- the fifth argument, how many writes are left
 abbrev μ : Measures 2 kinds.ps ℕ

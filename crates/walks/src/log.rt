@@ -1,6 +1,6 @@
 // Walks over the log, oldest write first, one write falling away at each step.
-use crate::state::State;
-use crate::state::record_at;
+use desk::state::State;
+use desk::state::record_at;
 use pieces::lay::lay;
 use pieces::lay::lay_selected;
 use pieces::points::touched;
@@ -14,7 +14,7 @@ ghost use lib.ListN.{length};
 ghost use Rattle.region.specs.Limits.{const-persistence-chunk-size};
 ghost use Rattle.pieces.specs.AsyncSpec.{size-to-chunks};
 ghost use Rattle.pieces.specs.Rows.{row-bytes};
-ghost use Rattle.desk.specs.Log.{Remaining, replayed-whole, replayed-by-rows, KeptFrom, kept-by-table};
+ghost use Rattle.walks.specs.Log.{Remaining, replayed-whole, replayed-by-rows, KeptFrom, kept-by-table};
 
 // The last `left` writes, whose bytes begin at `at`, laid whole over `work`: `flush`.
 pub fn replay_whole(state: State, log: &[u8], work: &mut [u8], at: usize, left: usize)

@@ -1,13 +1,13 @@
--- `desk::log::kept` meets its contract: the sum so far and what the remaining records keep are what the whole log keeps. Assumes nothing.
+-- `walks::log::kept` meets its contract: the sum so far and what the remaining records keep are what the whole log keeps. Assumes nothing.
 use Prim.Native.Nat.{ℕ, _+_, _-_, _/_, _≤_}
 use native.Mathlib.Omega.{arith}
 use mathlib.Core.Path.{_≡_, ap, _∙_}
 use Rattle.region.specs.Limits.{const-persistence-chunk-size}
 use Rattle.pieces.specs.AsyncSpec.{size-to-chunks}
 use Rattle.pieces.specs.Rows.{set-bits, row-bit, row-bytes}
-use Rattle.desk.proofs.KeptLaws.{touched-inside, Counting, Turn, count-starts, turn, count-ends}
-use Rattle.desk.proofs.log.kept.Statement.{statement}
-use Rattle.desk.proofs.log.kept.Tie as tie
+use Rattle.walks.proofs.KeptLaws.{touched-inside, Counting, Turn, count-starts, turn, count-ends}
+use Rattle.walks.proofs.log.kept.Statement.{statement}
+use Rattle.walks.proofs.log.kept.Tie as tie
 
 abbrev C : ℕ
 C = const-persistence-chunk-size

@@ -13,12 +13,12 @@ use Rattle.region.proofs.Booleans.{both}
 use Rattle.pieces.specs.AsyncSpec.{Write, size-to-chunks, apply-write-selective, committed, flush-writes, flush-writes-selective}
 use Rattle.pieces.specs.Rows.{row-at, rows-at, row-bytes}
 use Rattle.pieces.proofs.RowBits.{rows-at-more}
 use Rattle.desk.specs.State.{log-records, together, records-inside, writes-of}
-use Rattle.desk.specs.Log.{last-records, last-writes, Remaining}
+use Rattle.walks.specs.Log.{last-records, last-writes, Remaining}
 use Rattle.records.specs.declared.Record.{Record}
 use Rattle.desk.specs.declared.state.State.{State}
 use Rattle.desk.proofs.Soundness.{SoundFor}
 use Rattle.desk.proofs.Records.{next, together-more, inside-more, writes-more, records-none}
 
 -- the oldest of the last `left` records
 abbrev pub oldest : State → ℕ → Record
