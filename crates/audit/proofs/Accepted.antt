@@ -39,7 +39,7 @@ use Rattle.tape.specs.Cut.{tape-cut-number, TapeCuts}
 use Rattle.tape.proofs.NumberLaws.{tape-write-done}
 use Rattle.example.specs.Setup.{setup-number, SetsUp}
 use Rattle.example.specs.Run.{run-number, if-any-round, Runs}
-use Rattle.example.specs.declared.RunAnswer.{RunAnswer}
+use Rattle.rounds.specs.declared.RunAnswer.{RunAnswer}
 
 -- refusal 1 doesn't apply, and the state has its 32 records
 pub record Accepted (d : Desk) : Type 0 where

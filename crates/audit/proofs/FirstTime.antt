@@ -18,15 +18,17 @@ use Rattle.desk.proofs.Soundness.{facts-sound}
 use Rattle.writelog.proofs.FlushLaws.{flushes-done}
 use Rattle.gate.specs.Opening.{Opens}
 use Rattle.gate.proofs.Meaning.{admitting}
-use Rattle.example.specs.Valid.{app-valid, app-sheet}
+use Rattle.rounds.specs.Valid.{app-valid, app-sheet}
 use Rattle.example.specs.Run.{run-number, Runs}
-use Rattle.example.specs.Steps.{Under, Goes, Repeats}
-use Rattle.example.specs.declared.RunAnswer.the-variants.{Done}
-use Rattle.example.proofs.ByteLog.{byte-write}
+use Rattle.rounds.specs.Steps.{Under, Goes}
+use Rattle.example.specs.Run.{Repeats}
+use Rattle.rounds.specs.declared.RunAnswer.the-variants.{Done}
+use Rattle.rounds.proofs.ByteLog.{byte-write}
 use Rattle.example.proofs.NumberLaws.{Fit, run-0-fits, opening-decides}
-use Rattle.example.proofs.SheetLaws.{app-sheet-formed, sheet-says-valid}
-use Rattle.example.proofs.StepLaws.{once-admissible, once, twice-admissible, twice, logged-both, pair-goes, first-value, second-value}
-use Rattle.example.proofs.StepLaws.{under-after, under-turned, goes-on, repeats-none, repeats-more}
+use Rattle.rounds.proofs.SheetLaws.{app-sheet-formed, sheet-says-valid}
+use Rattle.rounds.proofs.StepLaws.{once-admissible, once, twice-admissible, twice, logged-both, pair-goes, first-value, second-value}
+use Rattle.rounds.proofs.StepLaws.{under-after, under-turned, goes-on}
+use Rattle.example.proofs.RepeatLaws.{repeats-none, repeats-more}
 use Rattle.session.specs.History.{History, opening, _then_, written, flushed}
 use Rattle.session.specs.Run.{Run, opened, _and_, gate, flush, throughout}
 use Rattle.session.specs.Theorem.{Session}

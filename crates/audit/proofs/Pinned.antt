@@ -25,9 +25,10 @@ use Rattle.tape.specs.Write.{TapeWrites}
 use Rattle.tape.specs.Flush.{TapeFlushes}
 use Rattle.tape.specs.Cut.{TapeCuts}
 use Rattle.example.specs.Setup.{SetsUp}
-use Rattle.example.specs.Run.{run-answer-number, Runs}
-use Rattle.example.specs.declared.RunAnswer.{RunAnswer}
-use Rattle.example.proofs.NumberLaws.{run-answers-by-number}
+use Rattle.rounds.specs.Answer.{run-answer-number}
+use Rattle.example.specs.Run.{Runs}
+use Rattle.rounds.specs.declared.RunAnswer.{RunAnswer}
+use Rattle.rounds.proofs.AnswerNumbers.{run-answers-by-number}
 use Rattle.audit.proofs.Pinning.{Pinned, same, pin}
 
 -- a cut's report settles its answer

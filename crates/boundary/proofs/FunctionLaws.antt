@@ -21,8 +21,9 @@ use Rattle.tape.specs.Write.{TapeWrites}
 use Rattle.tape.specs.Flush.{TapeFlushes}
 use Rattle.tape.specs.Cut.{tape-cut-number, TapeCuts}
 use Rattle.example.specs.Setup.{SetsUp}
-use Rattle.example.specs.Run.{run-answer-number, Runs}
-use Rattle.example.specs.declared.RunAnswer.{RunAnswer}
+use Rattle.rounds.specs.Answer.{run-answer-number}
+use Rattle.example.specs.Run.{Runs}
+use Rattle.rounds.specs.declared.RunAnswer.{RunAnswer}
 use Rattle.boundary.specs.Words.{state-of, words-of, reported}
 use Rattle.boundary.specs.Lent.{Lent, lent, desk-of, TapeLent, lent-by-tape, Crossing, plainly, on-tape, at-desk}
 use Rattle.boundary.specs.Log.{SkaldriftWrite, SkaldriftRead, SkaldriftFlush, SkaldriftCut}

@@ -1,11 +1,11 @@
 // The predicted image, computed from image, log and rows each time, whatever the buffer held.
 use crate::epoch::flush_foretold;
-use walks::log::replay_selected;
-use walks::log::replay_whole;
 use desk::state::State;
 use pieces::lay::lay;
 use pieces::rows::row_bytes;
 use region::chunks::size_to_chunks;
+use walks::log::replay_selected;
+use walks::log::replay_whole;
 ghost use mathlib.Core.Path.{_≡_};
 ghost use lib.ListN.{length};
 ghost use Rattle.desk.specs.Desk.{desk};

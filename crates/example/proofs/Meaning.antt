@@ -10,13 +10,15 @@ use Rattle.region.specs.Answer.{answer-number, if-done}
 use Rattle.region.specs.declared.Answer.{Answer}
 use Rattle.region.specs.declared.Answer.the-variants as answers
 use Rattle.region.proofs.AnswerLaws.{changed}
-use Rattle.example.specs.Valid.{app-valid}
+use Rattle.rounds.specs.Valid.{app-valid}
 use Rattle.example.specs.Setup.{setup-number, SetsUp}
-use Rattle.example.specs.Run.{run-number, run-answer-number, if-any-round, log-after-round, Runs}
-use Rattle.example.specs.declared.RunAnswer.{RunAnswer}
-use Rattle.example.specs.declared.RunAnswer.the-variants.{Done}
-use Rattle.example.proofs.NumberLaws.{run-answers-by-number, setup-done-lies, Fit, run-good}
-use Rattle.example.proofs.StepLaws.{first-value, set-valid, valid-lies}
+use Rattle.rounds.specs.Answer.{run-answer-number}
+use Rattle.example.specs.Run.{run-number, if-any-round, log-after-round, Runs}
+use Rattle.rounds.specs.declared.RunAnswer.{RunAnswer}
+use Rattle.rounds.specs.declared.RunAnswer.the-variants.{Done}
+use Rattle.rounds.proofs.AnswerNumbers.{run-answers-by-number}
+use Rattle.example.proofs.NumberLaws.{setup-done-lies, Fit, run-good}
+use Rattle.rounds.proofs.StepLaws.{first-value, set-valid, valid-lies}
 
 -- `setup` of the source: the image that it leaves is valid, whatever the other value
 pub set-up-is-valid : (image : List ℕ) (addr val0 : ℕ) {answer : Answer} {image′ : List ℕ} → SetsUp image addr val0 answer image′ → answer ≡ answers.Done

@@ -13,32 +13,20 @@ use Rattle.region.specs.Answer.{unless, answer-number, refusal-number}
 use Rattle.region.specs.declared.Answer.{Answer}
 use Rattle.region.specs.declared.Refusal.{Refusal}
 use Rattle.region.specs.declared.Answer.the-variants as answers
-use Rattle.region.proofs.AnswerLaws.{refusals-by-number, done-changed, refused-left, refusal-not-done, passed, go-on, stop, both-none}
+use Rattle.region.proofs.AnswerLaws.{done-changed, refused-left, passed, go-on, stop, both-none}
 use Rattle.region.proofs.Booleans.{both, cond-when, cond-unless}
 use Rattle.sheet.specs.Sheet.{well-formed, obeys}
 use Rattle.desk.specs.Desk.{Desk}
 use Rattle.gate.specs.Opening.{open-number, Opens}
-use Rattle.gate.proofs.Meaning.{denial-is-no-refusal}
 use Rattle.gate.proofs.OpeningLaws.{open-good, open-broken}
 use Rattle.gate.proofs.Gives.{opens-means, opened-fresh}
-use Rattle.example.specs.Valid.{app-valid}
+use Rattle.rounds.specs.Valid.{app-valid}
 use Rattle.example.specs.Setup.{setup-number, SetsUp}
-use Rattle.example.specs.Run.{rounds-limit, fits-number, run-number, run-answer-number, Runs}
-use Rattle.example.specs.Steps.{Under, Repeats}
-use Rattle.example.specs.declared.RunAnswer.{RunAnswer}
-use Rattle.example.specs.declared.RunAnswer.the-variants.{Done, Refused, Denied}
-
--- the number of a run's answer settles it
-pub run-answers-by-number : (a b : RunAnswer) → run-answer-number a ≡ run-answer-number b → a ≡ b
-run-answers-by-number Done Done e = refl
-run-answers-by-number Done (Refused why) e = absurd (omega (arith, refusal-not-done why))
-run-answers-by-number Done Denied e = absurd (omega arith)
-run-answers-by-number (Refused why) Done e = absurd (omega (arith, refusal-not-done why))
-run-answers-by-number (Refused why) (Refused reason) e = ap Refused (refusals-by-number why reason e)
-run-answers-by-number (Refused why) Denied e = absurd (denial-is-no-refusal why e)
-run-answers-by-number Denied Done e = absurd (omega arith)
-run-answers-by-number Denied (Refused why) e = absurd (denial-is-no-refusal why (sym e))
-run-answers-by-number Denied Denied e = refl
+use Rattle.rounds.specs.Answer.{run-answer-number}
+use Rattle.rounds.specs.Steps.{Under}
+use Rattle.example.specs.Run.{rounds-limit, fits-number, run-number, Runs, Repeats}
+use Rattle.rounds.specs.declared.RunAnswer.{RunAnswer}
+use Rattle.rounds.specs.declared.RunAnswer.the-variants.{Done, Refused}
 
 -- setup
 module _ (image : List ℕ) (addr val0 : ℕ) where

@@ -3,7 +3,7 @@ use Prim.Native.Nat.{ℕ}
 use mathlib.Core.Path.{_≡_, refl}
 use mathlib.Core.List.{List, [], _∷_, map}
 use lib.ListN.{replicate}
-use Rattle.example.specs.Valid.{app-valid, app-sheet}
+use Rattle.rounds.specs.Valid.{app-valid, app-sheet}
 use Rattle.example.specs.Setup.{setup-number}
 use Rattle.example.specs.Run.{run-number}
 

@@ -1,6 +1,3 @@
--- The definitions that `example`'s contracts cite: `Valid` has what the application keeps true of its image and the sheet that says so, `Setup` and
--- `Run` what the two calls answer and leave behind, `Steps` the same for the steps of a run.
-pub mod Valid
+-- The definitions that `example`'s contracts cite: `Setup` and `Run` have what the two calls answer and leave behind.
 pub mod Setup
 pub mod Run
-pub mod Steps

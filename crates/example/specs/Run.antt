@@ -8,21 +8,15 @@ use mathlib.Core.List.{List}
 use lib.Dec.{leb, eqb}
 use lib.ListN.{length, set}
 use Rattle.region.specs.Limits.{image-limit, log-limit}
-use Rattle.region.specs.Answer.{refusal-number, unless, if-done}
-use Rattle.gate.specs.Judgement.{denied-number}
-use Rattle.example.specs.Valid.{app-valid}
-use Rattle.example.specs.declared.RunAnswer.{RunAnswer}
-use Rattle.example.specs.declared.RunAnswer.the-variants.{Done, Refused, Denied}
+use Rattle.region.specs.Answer.{unless, if-done}
+use Rattle.rounds.specs.Valid.{app-valid}
+use Rattle.rounds.specs.Answer.{run-answer-number}
+use Rattle.rounds.specs.declared.RunAnswer.{RunAnswer}
+use Rattle.rounds.specs.declared.RunAnswer.the-variants.{Done}
 
 -- "12: example: more than 1000 rounds"
 abbrev pub rounds-limit : ℕ
 rounds-limit = 1000
-
--- document 01's number for each case of the answer. `Denied` is proved never to come.
-abbrev pub run-answer-number : RunAnswer → ℕ
-run-answer-number Done = 0
-run-answer-number (Refused why) = refusal-number why
-run-answer-number Denied = denied-number
 
 -- what is asked before the image is judged: 1, 2 and 12, by the lengths
 abbrev pub fits-number : (L log-length work-length addr rounds : ℕ) → ℕ
@@ -54,3 +48,10 @@ module _ (image log work : List ℕ) (addr val0 val1 rounds : ℕ) where
     pub image-after : image′ ≡ if-done run-number (if-any-round rounds (set image addr val0) image) image
     pub log-after : log′ ≡ if-done run-number (if-any-round rounds (log-after-round log val0 val1) log) log
     pub work-after : work′ ≡ if-done run-number (if-any-round rounds (set image addr val0) work) work
+
+-- Inner: what the rounds leave
+pub record Repeats (image log work : List ℕ) (addr val0 val1 rounds : ℕ) (answer : RunAnswer) (image′ log′ work′ : List ℕ) : Type 0 where
+  pub answers : answer ≡ Done
+  pub image-after : image′ ≡ if-any-round rounds (set image addr val0) image
+  pub log-after : log′ ≡ if-any-round rounds (log-after-round log val0 val1) log
+  pub work-after : work′ ≡ if-any-round rounds (set image addr val0) work

@@ -1,8 +1,5 @@
 // `run` of `ExampleApp`. The source runs for ever; here the rounds are counted.
 use crate::ROUNDS_LIMIT;
-use crate::RunAnswer;
-use crate::app_sheet::app_sheet;
-use crate::round::round;
 use desk::state::State;
 use desk::state::fresh;
 use gate::open::open;
@@ -10,11 +7,14 @@ use region::Answer;
 use region::IMAGE_LIMIT;
 use region::LOG_LIMIT;
 use region::Refusal;
+use rounds::RunAnswer;
+use rounds::app_sheet::app_sheet;
+use rounds::round::round;
 ghost use mathlib.Core.Path.{_≡_};
 ghost use Rattle.region.specs.Answer.{answer-number};
 ghost use Rattle.desk.specs.Desk.{desk};
-ghost use Rattle.example.specs.Run.{fits-number, Runs};
-ghost use Rattle.example.specs.Steps.{Under, Repeats};
+ghost use Rattle.rounds.specs.Steps.{Under};
+ghost use Rattle.example.specs.Run.{fits-number, Runs, Repeats};
 
 // What is asked before the image is judged: document 01's 1, 2 and 12.
 fn fits(image: usize, log: usize, work: usize, addr: usize, rounds: u64) -> Answer

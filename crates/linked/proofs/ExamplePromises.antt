@@ -5,8 +5,9 @@ use mathlib.Core.List.{List}
 use Rattle.region.specs.Answer.{answer-number}
 use Rattle.region.specs.declared.Answer.{Answer}
 use Rattle.example.specs.Setup.{SetsUp}
-use Rattle.example.specs.Run.{run-answer-number, Runs}
-use Rattle.example.specs.declared.RunAnswer.{RunAnswer}
+use Rattle.rounds.specs.Answer.{run-answer-number}
+use Rattle.example.specs.Run.{Runs}
+use Rattle.rounds.specs.declared.RunAnswer.{RunAnswer}
 use Rattle.boundary.specs.Example.{SkaldriftSetup, SkaldriftRun}
 use Rattle.linked.proofs.Numbers.{setup-answers, run-answers}
 

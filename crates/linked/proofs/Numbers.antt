@@ -37,10 +37,11 @@ use Rattle.tape.specs.Memory.{TapeDesk, or-else, tape-sound-for}
 use Rattle.tape.specs.Write.{tape-room-number, tape-write-number}
 use Rattle.tape.specs.Ending.{as-foretold, ending-number, tape-ending-number}
 use Rattle.example.specs.Setup.{setup-number}
-use Rattle.example.specs.Valid.{app-valid}
-use Rattle.example.specs.Run.{rounds-limit, run-answer-number, run-number}
-use Rattle.example.specs.declared.RunAnswer.{RunAnswer}
-use Rattle.example.specs.declared.RunAnswer.the-variants as run-answer
+use Rattle.rounds.specs.Valid.{app-valid}
+use Rattle.rounds.specs.Answer.{run-answer-number}
+use Rattle.example.specs.Run.{rounds-limit, run-number}
+use Rattle.rounds.specs.declared.RunAnswer.{RunAnswer}
+use Rattle.rounds.specs.declared.RunAnswer.the-variants as run-answer
 
 -- an answer has this number
 abbrev pub Answers : ℕ → Type 0

@@ -1,8 +1,8 @@
 // The example application.
-use example::numbers::run_answer_number;
 use example::run::run;
 use example::setup::setup;
 use region::numbers::answer_number;
+use rounds::numbers::run_answer_number;
 ghost use Rattle.boundary.specs.Example.{SkaldriftSetup, SkaldriftRun};
 
 // Makes the byte at `addr` val0, and leaves every other byte.

@@ -1,8 +1,8 @@
 // The cut by tape.
 use crate::ending::end_epoch;
-use walks::log::kept;
 use desk::state::State;
 use region::Answer;
+use walks::log::kept;
 use writelog::cut::CutAnswer;
 ghost use Rattle.desk.specs.Desk.{desk};
 ghost use Rattle.tape.specs.Memory.{by-tape};

@@ -1,6 +1,4 @@
 // The cut.
-use walks::log::kept;
-use walks::log::replay_selected;
 use desk::state::Outstanding;
 use desk::state::State;
 use desk::state::checked;
@@ -9,6 +7,8 @@ use pieces::rows::row_bytes;
 use pieces::rows::rows_filled;
 use region::Refusal;
 use region::chunks::size_to_chunks;
+use walks::log::kept;
+use walks::log::replay_selected;
 ghost use mathlib.Core.Path.{_≡_};
 ghost use Prim.Native.Nat.{_≤_};
 ghost use Rattle.region.specs.Limits.{image-limit, writes-limit, const-persistence-chunk-size};

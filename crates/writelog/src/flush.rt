@@ -1,11 +1,11 @@
 // The flush.
-use walks::log::replay_whole;
 use desk::state::Outstanding;
 use desk::state::State;
 use desk::state::checked;
 use desk::state::emptied;
 use region::Answer;
 use region::Refusal;
+use walks::log::replay_whole;
 ghost use Rattle.desk.specs.Desk.{desk};
 ghost use Rattle.writelog.specs.Flush.{Flushes};
 

@@ -1,5 +1,4 @@
 // The read, and the number of the same question.
-use walks::log::replay_whole;
 use desk::state::Outstanding;
 use desk::state::State;
 use desk::state::checked;
@@ -7,6 +6,7 @@ use desk::state::within;
 use pieces::lay::lay;
 use region::Answer;
 use region::Refusal;
+use walks::log::replay_whole;
 ghost use mathlib.Core.Path.{_≡_};
 ghost use lib.ListN.{length};
 ghost use Rattle.region.specs.Answer.{answer-number};

@@ -5,10 +5,12 @@ use native.Mathlib.Omega.{arith}
 use mathlib.Core.Path.{_≡_, subst}
 use borrow.Author.Needs.{needs}
 use Rattle.desk.specs.Desk.{desk}
-use Rattle.example.specs.Steps.{Under, Repeats}
-use Rattle.example.specs.declared.RunAnswer.the-variants.{Done}
-use Rattle.example.proofs.Arms.{done-goes-on}
-use Rattle.example.proofs.StepLaws.{first-value, under-after, repeats-none, repeats-more, image-length, log-length, work-length}
+use Rattle.rounds.specs.Steps.{Under}
+use Rattle.example.specs.Run.{Repeats}
+use Rattle.rounds.specs.declared.RunAnswer.the-variants.{Done}
+use Rattle.rounds.proofs.Arms.{done-goes-on}
+use Rattle.rounds.proofs.StepLaws.{first-value, under-after}
+use Rattle.example.proofs.RepeatLaws.{repeats-none, repeats-more, image-length, log-length, work-length}
 use Rattle.example.proofs.run.repeat.Statement.{statement}
 use Rattle.example.proofs.run.repeat.Tie as tie
 

@@ -9,8 +9,8 @@ use lib.ListN.{length}
 use borrow.Author.Needs.{needs}
 use Rattle.region.specs.Answer.{answer-number}
 use Rattle.sheet.specs.Sheet.{well-formed, obeys, address-bits}
-use Rattle.example.specs.Valid.{app-valid}
-use Rattle.example.proofs.SheetLaws.{app-sheet-formed, sheet-says-valid}
+use Rattle.rounds.specs.Valid.{app-valid}
+use Rattle.rounds.proofs.SheetLaws.{app-sheet-formed, sheet-says-valid}
 use Rattle.example.proofs.NumberLaws.{Fit, number-0-fits, run-unfit, runs-refused, opening-refused, opening-good, run-goes}
 use Rattle.example.proofs.run.run.Statement.{statement}
 use Rattle.example.proofs.run.run.Tie as tie

@@ -4,7 +4,7 @@ use mathlib.Core.Path.{_≡_, ap, _∙_}
 use lib.ListN.{length, set, length-set}
 use borrow.Author.Needs.{needs}
 use Rattle.region.specs.declared.Refusal.the-variants.{BadState, OutOfRange}
-use Rattle.example.proofs.ByteLog.{byte-laid}
+use Rattle.rounds.proofs.ByteLog.{byte-laid}
 use Rattle.example.proofs.NumberLaws.{sets-up-refused, sets-up-done, setup-long, setup-outside, setup-inside}
 use Rattle.example.proofs.setup.setup.Statement.{statement}
 use Rattle.example.proofs.setup.setup.Tie as tie

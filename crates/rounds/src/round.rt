@@ -9,8 +9,8 @@ ghost use mathlib.Core.Path.{_≡_};
 ghost use Rattle.region.specs.Answer.{answer-number};
 ghost use Rattle.desk.specs.Desk.{desk};
 ghost use Rattle.gate.specs.Judgement.{verdict-report};
-ghost use Rattle.example.specs.Run.{run-answer-number};
-ghost use Rattle.example.specs.Steps.{Under, Goes};
+ghost use Rattle.rounds.specs.Answer.{run-answer-number};
+ghost use Rattle.rounds.specs.Steps.{Under, Goes};
 
 pub struct Stepped {
     pub answer: RunAnswer,

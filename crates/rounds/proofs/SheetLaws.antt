@@ -16,7 +16,7 @@ use Rattle.bits.proofs.Reading.{field-there}
 use Rattle.sheet.specs.Sheet.{address-bits, clause, range, clause-holds, empty-holds, join, holds, well-formed, obeys}
 use Rattle.sheet.specs.Sheet.{read-tagged, read-entry, read-members, read-rest, read-rule, read-edition, filling, read-filling, read-whole, read-sheet}
 use Rattle.sheet.proofs.Reading.{entry-range}
-use Rattle.example.specs.Valid.{app-valid, app-rule, app-sheet}
+use Rattle.rounds.specs.Valid.{app-valid, app-rule, app-sheet}
 
 -- a list of bytes, entry by entry
 abbrev Bytes : List ℕ → Type 0

@@ -7,10 +7,9 @@ use lib.ListN.{length, set}
 use Rattle.region.specs.Limits.{image-limit, writes-limit, log-limit}
 use Rattle.sheet.specs.Sheet.{obeys}
 use Rattle.desk.specs.Desk.{Desk}
-use Rattle.example.specs.Valid.{app-valid}
-use Rattle.example.specs.Run.{if-any-round, log-after-round}
-use Rattle.example.specs.declared.RunAnswer.{RunAnswer}
-use Rattle.example.specs.declared.RunAnswer.the-variants.{Done}
+use Rattle.rounds.specs.Valid.{app-valid}
+use Rattle.rounds.specs.declared.RunAnswer.{RunAnswer}
+use Rattle.rounds.specs.declared.RunAnswer.the-variants.{Done}
 
 -- an empty log
 pub record Idle (d : Desk) : Type 0 where
@@ -33,10 +32,3 @@ pub record Goes (d : Desk) (addr first second : ℕ) (answer : RunAnswer) (d′ 
   pub image-after : d′ .image ≡ set (d .image) addr second
   pub log-after : d′ .log ≡ set (set (d .log) 0 first) 1 second
   pub work-after : work′ ≡ set (d .image) addr second
-
--- what the rounds leave
-pub record Repeats (image log work : List ℕ) (addr val0 val1 rounds : ℕ) (answer : RunAnswer) (image′ log′ work′ : List ℕ) : Type 0 where
-  pub answers : answer ≡ Done
-  pub image-after : image′ ≡ if-any-round rounds (set image addr val0) image
-  pub log-after : log′ ≡ if-any-round rounds (log-after-round log val0 val1) log
-  pub work-after : work′ ≡ if-any-round rounds (set image addr val0) work

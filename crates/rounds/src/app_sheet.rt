@@ -2,7 +2,7 @@
 ghost use mathlib.Core.Path.{_≡_};
 ghost use Prim.Native.Nat.{_<_, _^_};
 ghost use Rattle.sheet.specs.Sheet.{address-bits};
-ghost use Rattle.example.specs.Valid.{app-sheet};
+ghost use Rattle.rounds.specs.Valid.{app-sheet};
 
 // "any of: byte addr is val0; byte addr is val1": edition 1, tag 11, two members, and for each tag 00,
 // the address, low and high. The first address begins at bit 14, the second at bit 48.

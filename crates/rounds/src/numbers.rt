@@ -2,7 +2,7 @@
 use crate::RunAnswer;
 use region::numbers::refusal_number;
 ghost use mathlib.Core.Path.{_≡_};
-ghost use Rattle.example.specs.Run.{run-answer-number};
+ghost use Rattle.rounds.specs.Answer.{run-answer-number};
 
 pub fn run_answer_number(answer: RunAnswer) -> u64
     ensures { λ r. ⌜ r ≡ run-answer-number answer ⌝ }

@@ -1,14 +1,14 @@
--- `example::round::pair` meets its contract. The gate admits the first value over an empty log and the second over the first (`StepLaws`), so neither
+-- `rounds::round::pair` meets its contract. The gate admits the first value over an empty log and the second over the first (`StepLaws`), so neither
 -- verdict stops the pair; the flush over both is done. Assumes nothing.
 use mathlib.Core.Path.{ap, _∙_}
 use lib.ListN.{length, length-set}
 use borrow.Author.Needs.{needs}
 use Rattle.desk.specs.Desk.{Desk, desk, with-write}
-use Rattle.example.proofs.Arms.{admitted-goes-on}
-use Rattle.example.proofs.ByteLog.{byte-write}
-use Rattle.example.proofs.StepLaws.{Gated, once, twice, pair-goes}
-use Rattle.example.proofs.round.pair.Statement.{statement}
-use Rattle.example.proofs.round.pair.Tie as tie
+use Rattle.rounds.proofs.Arms.{admitted-goes-on}
+use Rattle.rounds.proofs.ByteLog.{byte-write}
+use Rattle.rounds.proofs.StepLaws.{Gated, once, twice, pair-goes}
+use Rattle.rounds.proofs.round.pair.Statement.{statement}
+use Rattle.rounds.proofs.round.pair.Tie as tie
 
 -- the places: the start, the first write and the second
 abbrev start : tie.After-gate → tie.Start

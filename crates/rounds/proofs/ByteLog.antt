@@ -15,7 +15,7 @@ use Rattle.region.proofs.Booleans.{both, both-true}
 use Rattle.pieces.specs.AsyncSpec.{Write, write-of, AsyncView, apply-write-selective, flush-writes, flush-writes-selective, readable, can-crash}
 use Rattle.pieces.specs.Choice.{touched, points}
 use Rattle.pieces.proofs.Laid.{lay, update-is-lay, lay-none, lay-kept, lay-lost}
-use Rattle.example.specs.Valid.{one-of, app-valid}
+use Rattle.rounds.specs.Valid.{one-of, app-valid}
 
 -- the write of one byte
 abbrev pub byte-write : (addr v : ℕ) → Write

@@ -7,9 +7,9 @@ use denote.Enum.Declared.{tagOf}
 use Rattle.gate.specs.declared.Verdict.{Verdict}
 use Rattle.gate.specs.declared.Verdict.the-variants.{Admitted}
 use Rattle.gate.proofs.Verdict as verdict
-use Rattle.example.specs.declared.RunAnswer.{RunAnswer}
-use Rattle.example.specs.declared.RunAnswer.the-variants.{Done}
-use Rattle.example.proofs.RunAnswer as run-answer
+use Rattle.rounds.specs.declared.RunAnswer.{RunAnswer}
+use Rattle.rounds.specs.declared.RunAnswer.the-variants.{Done}
+use Rattle.rounds.proofs.RunAnswer as run-answer
 
 pub admitted-goes-on : {v : Verdict} {n : ℕ} → v ≡ Admitted n → OneOf (1 ∷ 2 ∷ []) (tagOf verdict.the-type v) → ⊥
 admitted-goes-on e k = miss (1 ∷ 2 ∷ []) 0 tt (subst (λ (v : Verdict). OneOf (1 ∷ 2 ∷ []) (tagOf verdict.the-type v)) e k)

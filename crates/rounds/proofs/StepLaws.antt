@@ -1,7 +1,6 @@
 -- The steps of a run, from the promises of the gate and the flush: the log has written one-byte writes of the two values at the address, so the gate
 -- admits one more, and a flush leaves the last value. Assumes nothing.
-use Prim.Native.Nat.{ℕ, zero, suc, _+_, _<_}
-use native.Mathlib.Numerals.{add-one}
+use Prim.Native.Nat.{ℕ, _+_, _<_}
 use native.Mathlib.Omega.{arith}
 use mathlib.Core.Path.{_≡_, refl, sym, ap, subst, _∙_}
 use mathlib.Core.Bool.{Bool, true, _&&_, or-true, or-comm}
@@ -33,14 +32,14 @@ use Rattle.gate.specs.declared.Verdict.{Verdict}
 use Rattle.gate.specs.declared.Verdict.the-variants.{Admitted}
 use Rattle.gate.proofs.JudgementLaws.{admitted-number}
 use Rattle.gate.proofs.Meaning.{gate-means}
-use Rattle.example.specs.Valid.{one-of, app-valid}
-use Rattle.example.specs.Steps.{Under, Goes, Repeats}
-use Rattle.example.specs.Run.{run-answer-number, if-any-round, log-after-round}
-use Rattle.example.specs.declared.RunAnswer.{RunAnswer}
-use Rattle.example.specs.declared.RunAnswer.the-variants.{Done}
-use Rattle.example.proofs.NumberLaws.{run-answers-by-number}
-use Rattle.example.proofs.ByteLog.{byte-write, byte-laid, byte-writes, byte-log, byte-writes-last, byte-points, last-read}
-use Rattle.example.proofs.ByteLog.{all-of, left-valid, cut-leaves-a-value}
+use Rattle.rounds.specs.Valid.{one-of, app-valid}
+use Rattle.rounds.specs.Steps.{Under, Goes}
+use Rattle.rounds.specs.Answer.{run-answer-number}
+use Rattle.rounds.specs.declared.RunAnswer.{RunAnswer}
+use Rattle.rounds.specs.declared.RunAnswer.the-variants.{Done}
+use Rattle.rounds.proofs.AnswerNumbers.{run-answers-by-number}
+use Rattle.rounds.proofs.ByteLog.{byte-write, byte-laid, byte-writes, byte-log, byte-writes-last, byte-points, last-read}
+use Rattle.rounds.proofs.ByteLog.{all-of, left-valid, cut-leaves-a-value}
 
 -- the log holds these values, written at addr
 pub record Logged (d : Desk) (addr : ℕ) (us : List ℕ) : Type 0 where
@@ -238,7 +237,7 @@ module _ {d : Desk} {sheet work : List ℕ} {addr a b : ℕ} (u : Under d sheet 
       }
 
 -- two bytes over two bytes
-pair-over-pair : (log : List ℕ) (a b x y : ℕ) → set (set (set (set log 0 a) 1 b) 0 x) 1 y ≡ set (set log 0 x) 1 y
+pub pair-over-pair : (log : List ℕ) (a b x y : ℕ) → set (set (set (set log 0 a) 1 b) 0 x) 1 y ≡ set (set log 0 x) 1 y
 pair-over-pair [] a b x y = refl
 pair-over-pair (l ∷ []) a b x y = refl
 pair-over-pair (l ∷ m ∷ log) a b x y = refl
@@ -255,46 +254,3 @@ goes-on {d} {addr} {a} {b} {x} {y} g h =
       log-after = h .log-after ∙ ap (λ (l : List ℕ). set (set l 0 x) 1 y) (g .log-after) ∙ pair-over-pair (d .log) a b x y;
       work-after = h .work-after ∙ over;
     }
-
--- the rounds
-module _ {image log work : List ℕ} {addr val0 val1 : ℕ} where
-  pub repeats-none : Repeats image log work addr val0 val1 0 Done image log work
-  repeats-none = record { answers = refl; image-after = refl; log-after = refl; work-after = refl }
-
-  -- one more
-  pub repeats-more : {n : ℕ} {d₁ : Desk} {work₁ : List ℕ} → Repeats image log work addr val0 val1 n Done (d₁ .image) (d₁ .log) work₁
-      → {answer : RunAnswer} {d′ : Desk} {work′ : List ℕ} → Goes d₁ addr val1 val0 answer d′ work′
-      → Repeats image log work addr val0 val1 (n + 1) Done (d′ .image) (d′ .log) work′
-  repeats-more {n} r g =
-      let long = add-one n in
-      let image-again = ap (λ (s : List ℕ). set s addr val0) (r .image-after) ∙ again n in
-      record {
-        answers = refl;
-        image-after = rw long (g .image-after ∙ image-again);
-        log-after = rw long (g .log-after ∙ ap (λ (l : List ℕ). log-after-round l val0 val1) (r .log-after) ∙ log-again n);
-        work-after = rw long (g .work-after ∙ image-again);
-      }
-    where
-      again : (k : ℕ) → set (if-any-round k (set image addr val0) image) addr val0 ≡ set image addr val0
-      again zero = refl
-      again (suc k) = set-set image addr val0 val0
-
-      log-again : (k : ℕ) → log-after-round (if-any-round k (log-after-round log val0 val1) log) val0 val1 ≡ log-after-round log val0 val1
-      log-again zero = refl
-      log-again (suc k) = pair-over-pair log val1 val0 val1 val0
-
-  -- they keep the lengths
-  module _ {n : ℕ} {answer : RunAnswer} {image′ log′ work′ : List ℕ} (r : Repeats image log work addr val0 val1 n answer image′ log′ work′) where
-    kept-length : (k : ℕ) (after before : List ℕ) → length after ≡ length before → length (if-any-round k after before) ≡ length before
-    kept-length zero after before e = refl
-    kept-length (suc k) after before e = e
-
-    pub image-length : length image′ ≡ length image
-    image-length = ap length (r .image-after) ∙ kept-length n (set image addr val0) image (length-set image addr val0)
-
-    pub log-length : length log′ ≡ length log
-    log-length =
-        ap length (r .log-after) ∙ kept-length n (log-after-round log val0 val1) log (length-set (set log 0 val1) 1 val0 ∙ length-set log 0 val1)
-
-    pub work-length : length work ≡ length image → length work′ ≡ length work
-    work-length same = ap length (r .work-after) ∙ kept-length n (set image addr val0) work (length-set image addr val0 ∙ sym same)

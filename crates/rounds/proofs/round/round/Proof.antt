@@ -1,9 +1,9 @@
--- `example::round::round` meets its contract: two pairs, the second the other way round, each under the sheet (`StepLaws`). Assumes nothing.
+-- `rounds::round::round` meets its contract: two pairs, the second the other way round, each under the sheet (`StepLaws`). Assumes nothing.
 use borrow.Author.Needs.{needs}
-use Rattle.example.proofs.Arms.{done-goes-on}
-use Rattle.example.proofs.StepLaws.{second-value, under-after, under-turned, goes-on}
-use Rattle.example.proofs.round.round.Statement.{statement}
-use Rattle.example.proofs.round.round.Tie as tie
+use Rattle.rounds.proofs.Arms.{done-goes-on}
+use Rattle.rounds.proofs.StepLaws.{second-value, under-after, under-turned, goes-on}
+use Rattle.rounds.proofs.round.round.Statement.{statement}
+use Rattle.rounds.proofs.round.round.Tie as tie
 
 first-done : tie.Need-returns
 first-done c = absurd (done-goes-on (c .before .before .before .before .before .before .before .before .pair .ensures .answers) (c .match .keys2))
