@@ -59,7 +59,7 @@ record-at n words i e =
     (sym (addr-at (records-of words) i) ∙ ap (λ (l : List ℕ). getD l (2 * i) 0) back)
     (sym (len-at (records-of words) i) ∙ ap (λ (l : List ℕ). getD l (suc (2 * i)) 0) back)
 
--- The two directions undo each other: any state comes back from its words, and any 65 words from their state.
+-- The two directions undo each other: any state comes back from its words, and as many words as a state has from their state.
 pub state-back : (st : State) → state-of (words-of st) ≡ st
 state-back st = ap (λ (rs : List Record). record { count = st .count; records = rs }) (records-back (st .records))
 
@@ -78,7 +78,7 @@ front-more {A = A} l m i {a} d h k e front =
 pub front-all {ℓ} : {A : Type ℓ} (l m : List A) (n : ℕ) → length l ≡ n → length m ≡ n → take n l ≡ take n m → l ≡ m
 front-all l m n h k e = sym (take-all n l (omega arith)) ∙ e ∙ take-all n m (omega arith)
 
--- a state is read from 65 words one record at a time
+-- a state is read from its words one record at a time
 module _ (words : List ℕ) (sized : length words ≡ state-words) where
   abbrev said : List Record
   said = records-of (drop 1 words)

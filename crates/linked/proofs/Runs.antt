@@ -80,7 +80,7 @@ admits sized p =
     let (n, is) = admitted-of v same in
     (n, rw is at j)
 
--- after a session the next skaldrift_open, handed 65 words and a log buffer of its size, answers 0 over any image that a cut could leave
+-- after a session the next skaldrift_open, handed as many words as a state has and a log buffer of its size, answers 0 over any image that a cut could leave
 pub opening-answers-0 : {sheet image : List ℕ} {h : History} {d : Desk} → Session sheet image h d → (found : Lent) → could-be-left d (found .image)
     → state-sized plainly found → length (found .log) ≡ log-limit → {number : ℕ} {m′ : Lent} → SkaldriftOpen found sheet number m′ → number ≡ 0
 opening-answers-0 s found left sized buffer p =
@@ -129,7 +129,7 @@ module _ (sheet : List ℕ) where
         let (again, s) = call-is-a-step sized c in
         (again, run._and_ r s)
 
-    -- the desk's words stay 65, and the calls are a run of the library's
+    -- the desk's words stay a state's, and the calls are a run of the library's
     pub linked-words : {h : History} {m : Lent} → Calls sheet image h m → state-sized plainly m
     linked-words calls = linked-both calls .0
 

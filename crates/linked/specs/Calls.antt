@@ -1,5 +1,5 @@
 -- The runs of a session as a desk makes them that links the functions: each step is a skaldrift_* call, or two, of which its own promise is given, on the desk's
--- own words and bytes, whatever the number. They are the steps of session's `Run`, said of the 65 words.
+-- own words and bytes, whatever the number. They are the steps of session's `Run`, said of the words of a state.
 use Prim.Native.Nat.{ℕ, suc, _+_}
 use mathlib.Core.Path.{_≡_}
 use mathlib.Core.List.{List}
@@ -60,7 +60,7 @@ module _ (sheet : List ℕ) where
         → SkaldriftRead m work addr len number work′
         → Call m nothing m
 
-  -- A run over the image that it opens, oldest call first. Of the words that the opening is handed nothing is asked: number 0 tells that they are 65.
+  -- A run over the image that it opens, oldest call first. Of the words that the opening is handed nothing is asked: number 0 tells that they are a state's.
   pub data Calls (image : List ℕ) : History → Lent → Type 0 where
     opened : {m m′ : Lent} → m .image ≡ image → SkaldriftOpen m sheet 0 m′ → Calls image opening m′
     _and_ : {h : History} {m : Lent} {e : Event} {m′ : Lent} → Calls image h m → Call m e m′ → Calls image (h then e) m′

@@ -1,4 +1,4 @@
--- The runs of a session by tape as a desk makes them that links the functions: session's `TapeRun`, said of the 65 words.
+-- The runs of a session by tape as a desk makes them that links the functions: session's `TapeRun`, said of the words of a state.
 use Prim.Native.Nat.{ℕ, _+_}
 use mathlib.Core.Path.{_≡_}
 use mathlib.Core.List.{List}
