@@ -8,7 +8,7 @@ use mathlib.Core.List.{List, [], _∷_}
 use lib.Dec.{leb}
 use lib.ListN.{length, getD, take, drop, length-take, drop-of-length-le}
 use lib.Seq.{drop-cons, getD-take, length-take-le}
-use Rattle.desk.specs.State.{log-records, together, records-inside, writes-of, write-at, no-record}
+use Rattle.desk.specs.State.{log-records, together, records-inside, writes-of, recorded-write, no-record}
 use Rattle.records.specs.declared.Record.{Record}
 use Rattle.desk.specs.declared.state.State.{State}
 
@@ -43,6 +43,6 @@ module _ (st : State) (i : ℕ) (h : i < st .count) (l : st .count ≤ length (s
   inside-more L = ap (records-inside L) next-and-rest
 
   pub writes-more : (log : List ℕ)
-      → writes-of (drop i (log-records st)) log ≡ write-at (next st i) (take (next st i .len) log) ∷ writes-of (rest st i) (drop (next st i .len) log)
+      → writes-of (drop i (log-records st)) log ≡ recorded-write (next st i) (take (next st i .len) log) ∷ writes-of (rest st i) (drop (next st i .len) log)
   unfolding writes-of
   writes-more log = ap (λ (rs : List Record). writes-of rs log) next-and-rest

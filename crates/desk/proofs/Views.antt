@@ -16,7 +16,7 @@ use Rattle.region.specs.Pmemspec.{update-bytes}
 use Rattle.region.proofs.Booleans.{both, both-true}
 use Rattle.pieces.specs.AsyncSpec.{Write, write}
 use Rattle.pieces.proofs.Laid.{update-is-lay, length-update, lay-below, update-reads-back}
-use Rattle.desk.specs.State.{log-records, together, records-inside, writes-of, write-at, record-of, appended}
+use Rattle.desk.specs.State.{log-records, together, records-inside, writes-of, recorded-write, record-of, appended}
 use Rattle.desk.specs.Desk.{Desk, view, with-write, settled-desk}
 use Rattle.records.specs.declared.Record.{Record}
 use Rattle.desk.specs.declared.state.State.{State}
@@ -41,7 +41,7 @@ writes-agree [] l l′ e = refl
 writes-agree (r ∷ rs) l l′ e =
     let n = r .len + together rs in
     let here : take (r .len) l ≡ take (r .len) l′ = sym (take-take (r .len) n l (omega arith)) ∙ ap (take (r .len)) e ∙ take-take (r .len) n l′ (omega arith) in
-    ap₂ (λ (b : List ℕ) (ws : List Write). write-at r b ∷ ws) here
+    ap₂ (λ (b : List ℕ) (ws : List Write). recorded-write r b ∷ ws) here
     (writes-agree rs (drop (r .len) l) (drop (r .len) l′) (later (r .len) (together rs) l l′ e))
   where
     drop-take : (a t : ℕ) (l : List ℕ) → drop a (take (a + t) l) ≡ take t (drop a l)
@@ -65,13 +65,13 @@ inside-last L (x ∷ rs) r e h = let parts = both (leb (x .addr + x .len) L) (re
     both-true {a = leb (x .addr + x .len) L} (parts .0) (inside-last L rs r (parts .1) h)
 
 writes-last : (rs : List Record) (r : Record) (l : List ℕ)
-    → writes-of (rs ++ (r ∷ [])) l ≡ writes-of rs l ++ (write-at r (take (r .len) (drop (together rs) l)) ∷ [])
+    → writes-of (rs ++ (r ∷ [])) l ≡ writes-of rs l ++ (recorded-write r (take (r .len) (drop (together rs) l)) ∷ [])
 unfolding writes-of together
 writes-last [] r l = refl
 writes-last (x ∷ rs) r l =
-    ap (λ (ws : List Write). write-at x (take (x .len) l) ∷ ws)
+    ap (λ (ws : List Write). recorded-write x (take (x .len) l) ∷ ws)
     (writes-last rs r (drop (x .len) l)
-    ∙ ap (λ (k : List ℕ). writes-of rs (drop (x .len) l) ++ (write-at r (take (r .len) k) ∷ [])) (drop-drop (together rs) (x .len) l))
+    ∙ ap (λ (k : List ℕ). writes-of rs (drop (x .len) l) ++ (recorded-write r (take (r .len) k) ∷ [])) (drop-drop (together rs) (x .len) l))
 
 module _ (st : State) (r : Record) (sized : length (st .records) ≡ writes-limit) where
   pub records-of-appended : st .count < writes-limit → log-records (appended st r) ≡ log-records st ++ (r ∷ [])
@@ -119,7 +119,7 @@ module _ (d : Desk) (w : Write) (sized : length (d .state .records) ≡ writes-l
       ap (λ (ws : List Write). record { state-at-last-flush = d .image; outstanding-writes = ws })
       (ap (λ (rs : List Record). writes-of rs log) (records-of-appended (d .state) (record-of w) sized (room .few))
       ∙ writes-last rs (record-of w) log
-      ∙ ap₂ (λ (ws : List Write) (b : List ℕ). ws ++ (write-at (record-of w) b ∷ []))
+      ∙ ap₂ (λ (ws : List Write) (b : List ℕ). ws ++ (recorded-write (record-of w) b ∷ []))
       (writes-agree rs log (d .log) (laid-behind (d .log) (together rs) (w .bytes) (omega (arith, fits-log))))
       (update-reads-back (d .log) (together rs) (w .bytes) fits-log))
 

@@ -21,13 +21,13 @@ together [] = 0
 together (r ∷ rs) = r .len + together rs
 
 -- the write that a record and its bytes are
-abbrev pub write-at : Record → List ℕ → Write
-write-at r bytes = record { addr = r .addr; bytes = bytes }
+abbrev pub recorded-write : Record → List ℕ → Write
+recorded-write r bytes = record { addr = r .addr; bytes = bytes }
 
 -- each record with its bytes, which follow those of the records before it
 unfoldable pub writes-of : List Record → List ℕ → List Write
 writes-of [] log = []
-writes-of (r ∷ rs) log = write-at r (take (r .len) log) ∷ writes-of rs (drop (r .len) log)
+writes-of (r ∷ rs) log = recorded-write r (take (r .len) log) ∷ writes-of rs (drop (r .len) log)
 
 -- every record lies inside an image of L bytes, in whole numbers
 unfoldable pub records-inside : ℕ → List Record → Bool

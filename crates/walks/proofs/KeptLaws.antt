@@ -26,11 +26,11 @@ abbrev C : ℕ
 C = const-persistence-chunk-size
 
 -- the chunks of an image of L bytes, and the bytes of a row for it
-abbrev chunks : ℕ → ℕ
-chunks L = size-to-chunks C L
+abbrev image-chunks : ℕ → ℕ
+image-chunks L = size-to-chunks C L
 
 abbrev width : ℕ → ℕ
-width L = row-bytes (chunks L)
+width L = row-bytes (image-chunks L)
 
 -- a write touches no more chunks than it has bytes
 pub touched-le : (addr n : ℕ) → touched C addr n ≤ n
@@ -39,7 +39,7 @@ touched-le addr zero = omega arith
 touched-le addr (suc n) = omega arith
 
 -- the chunks that a write inside the image touches are the image's
-pub touched-inside : (L addr n : ℕ) → addr + n ≤ L → addr / C + touched C addr n ≤ chunks L
+pub touched-inside : (L addr n : ℕ) → addr + n ≤ L → addr / C + touched C addr n ≤ image-chunks L
 unfolding touched
 touched-inside L addr zero h = omega arith
 touched-inside L addr (suc n) h = omega arith
@@ -63,11 +63,11 @@ kept-here-le table row r =
     omega (arith, set-bits-le (row-bit table row) (r .addr / C) (touched C (r .addr) (r .len)), touched-le (r .addr) (r .len))
 
 -- one record more, with its row where it lies
-kept-more : (L : ℕ) (r : Record) (rs : List Record) (table : List ℕ) (row left : ℕ) → let K = chunks L in 0 < left → r .addr + r .len ≤ L
+kept-more : (L : ℕ) (r : Record) (rs : List Record) (table : List ℕ) (row left : ℕ) → let K = image-chunks L in 0 < left → r .addr + r .len ≤ L
     → kept-records C (r ∷ rs) (rows-at K left table row) ≡ kept-here table row r + kept-records C rs (rows-at K (left - 1) table (row + row-bytes K))
 unfolding kept-records
 kept-more L r rs table row left some lies =
-    let K = chunks L in
+    let K = image-chunks L in
     ap (kept-records C (r ∷ rs)) (rows-at-more K left table row some)
     ∙ ap (λ (m : ℕ). m + kept-records C rs (rows-at K (left - 1) table (row + row-bytes K)))
     (set-bits-agree (λ c. getD (row-at K table row) c false) (row-bit table row) (r .addr / C) (touched C (r .addr) (r .len))
@@ -78,8 +78,8 @@ pub record Counting (L : ℕ) (st : State) (table : List ℕ) (first sum row i :
   pub there : row + (st .count - i) * width L ≤ length table
   pub inside : records-inside L (drop i (log-records st)) ≡ true
   pub bytes : sum + together (drop i (log-records st)) ≤ together (log-records st)
-  pub pieces : sum + kept-records C (drop i (log-records st)) (rows-at (chunks L) (st .count - i) table row)
-      ≡ kept-records C (log-records st) (rows-at (chunks L) (st .count) table first)
+  pub pieces : sum + kept-records C (drop i (log-records st)) (rows-at (image-chunks L) (st .count - i) table row)
+      ≡ kept-records C (log-records st) (rows-at (image-chunks L) (st .count) table first)
 
 -- what its next record brings
 pub record Turn (L : ℕ) (st : State) (table : List ℕ) (first sum row i : ℕ) (r : Record) : Type 0 where
@@ -104,9 +104,9 @@ module _ (L : ℕ) (st : State) (table : List ℕ) (first : ℕ) where
           let less : st .count - i - 1 ≡ st .count - (i + 1) = omega arith in
           let off = one-less (st .count - i) (width L) (omega arith) ∙ ap (λ (n : ℕ). width L + n * width L) less in
           let one-more =
-          ap (λ (rs : List Record). kept-records C rs (rows-at (chunks L) (st .count - i) table row)) (next-and-rest st i more few)
+          ap (λ (rs : List Record). kept-records C rs (rows-at (image-chunks L) (st .count - i) table row)) (next-and-rest st i more few)
           ∙ kept-more L (next st i) (rest st i) table row (st .count - i) (omega arith) lies
-          ∙ ap (λ (n : ℕ). kept-here table row (next st i) + kept-records C (rest st i) (rows-at (chunks L) n table (row + width L))) less in
+          ∙ ap (λ (n : ℕ). kept-here table row (next st i) + kept-records C (rest st i) (rows-at (image-chunks L) n table (row + width L))) less in
           record {
             lies = lies;
             row-there = omega (arith, c .there, off);
@@ -120,9 +120,9 @@ module _ (L : ℕ) (st : State) (table : List ℕ) (first : ℕ) where
           }
 
   pub count-ends : {sum row i : ℕ} → st .count ≤ i → Counting L st table first sum row i
-      → sum ≡ kept-records C (log-records st) (rows-at (chunks L) (st .count) table first)
+      → sum ≡ kept-records C (log-records st) (rows-at (image-chunks L) (st .count) table first)
   unfolding kept-records
   count-ends {sum} {row} {i} done c =
       sym (add-zero sum)
-      ∙ ap (λ (rs : List Record). sum + kept-records C rs (rows-at (chunks L) (st .count - i) table row)) (sym (records-none st i done))
+      ∙ ap (λ (rs : List Record). sum + kept-records C rs (rows-at (image-chunks L) (st .count - i) table row)) (sym (records-none st i done))
       ∙ c .pieces

@@ -13,7 +13,7 @@ use Rattle.region.proofs.Booleans.{both}
 use Rattle.pieces.specs.AsyncSpec.{Write, size-to-chunks, apply-write-selective, committed, flush-writes, flush-writes-selective}
 use Rattle.pieces.specs.Rows.{row-at, rows-at, row-bytes}
 use Rattle.pieces.proofs.RowBits.{rows-at-more}
-use Rattle.desk.specs.State.{log-records, together, records-inside, writes-of, write-at}
+use Rattle.desk.specs.State.{log-records, together, records-inside, writes-of, recorded-write}
 use Rattle.walks.specs.Log.{last-records, last-writes, Remaining}
 use Rattle.records.specs.declared.Record.{Record}
 use Rattle.desk.specs.declared.state.State.{State}
@@ -37,7 +37,7 @@ pub record StepBy (L : ℕ) (st : State) (log-length at left : ℕ) (r : Record)
   pub lies : r .addr + r .len ≤ L
   pub has : at + r .len ≤ log-length
   pub after : Remaining L st log-length (at + r .len) (left - 1)
-  pub writes : (log : List ℕ) → last-writes st left log at ≡ write-at r (take (r .len) (drop at log)) ∷ last-writes st (left - 1) log (at + r .len)
+  pub writes : (log : List ℕ) → last-writes st left log at ≡ recorded-write r (take (r .len) (drop at log)) ∷ last-writes st (left - 1) log (at + r .len)
 
 abbrev pub Step : (L : ℕ) (st : State) (log-length at left : ℕ) → Type 0
 Step L st log-length at left = StepBy L st log-length at left (oldest st left)
@@ -69,7 +69,7 @@ module _ (L : ℕ) (st : State) (n at left : ℕ) (r : Remaining L st n at left)
         };
         writes = λ log.
             writes-more st (st .count - left) h l (drop at log)
-            ∙ ap₂ (λ (k : ℕ) (bytes : List ℕ). write-at (oldest st left) (take (oldest st left .len) (drop at log)) ∷ writes-of (drop k (log-records st)) bytes)
+            ∙ ap₂ (λ (k : ℕ) (bytes : List ℕ). recorded-write (oldest st left) (take (oldest st left .len) (drop at log)) ∷ writes-of (drop k (log-records st)) bytes)
             follow (drop-drop (oldest st left .len) at log);
       }
 
@@ -88,7 +88,7 @@ module _ {L : ℕ} {st : State} {n at left : ℕ} {r : Record} (s : StepBy L st 
 
   pub selected-step : (C : ℕ) (rows : List ℕ) (row width : ℕ) → let K = size-to-chunks C (length work) in
       0 < left → width ≡ row-bytes K → length laid ≡ length work
-      → laid ≡ apply-write-selective C work (write-at r (take (at + r .len - at) (drop at log))) (row-at K rows row)
+      → laid ≡ apply-write-selective C work (recorded-write r (take (at + r .len - at) (drop at log))) (row-at K rows row)
       → flush-writes-selective C laid (last-writes st (left - 1) log (at + r .len)) (rows-at (size-to-chunks C (length laid)) (left - 1) rows (row + width))
       ≡ flush-writes-selective C work (last-writes st left log at) (rows-at K left rows row)
   unfolding flush-writes-selective
@@ -97,7 +97,7 @@ module _ {L : ℕ} {st : State} {n at left : ℕ} {r : Record} (s : StepBy L st 
       let writes = last-writes st (left - 1) log (at + r .len) in
       ap₂ (λ (n w : ℕ). flush-writes-selective C laid writes (rows-at (size-to-chunks C n) (left - 1) rows (row + w))) same wide
       ∙ ap (λ (x : List ℕ). flush-writes-selective C x writes (rows-at K (left - 1) rows (row + row-bytes K)))
-      (e ∙ ap (λ (bytes : List ℕ). apply-write-selective C work (write-at r bytes) (row-at K rows row)) (piece-is at (r .len) log))
+      (e ∙ ap (λ (bytes : List ℕ). apply-write-selective C work (recorded-write r bytes) (row-at K rows row)) (piece-is at (r .len) log))
       ∙ sym (ap₂ (flush-writes-selective C work) (s .writes log) (rows-at-more K left rows row some))
 
 -- a walk over the whole log of a sound state
