@@ -1,25 +1,15 @@
 -- The state as it crosses to another language: 65 words of 64 bits, the count and then address and length of each record, oldest record first. A state of
 -- another length is refusal 1 at every call.
 use Prim.Native.Nat.{ℕ, _+_, _*_}
-use mathlib.Core.List.{List, [], _∷_}
+use mathlib.Core.List.{List, _∷_}
 use lib.ListN.{getD, drop}
 use Rattle.region.specs.Limits.{writes-limit}
 use Rattle.region.specs.Answer.{Report}
-use Rattle.records.specs.declared.Record.{Record}
+use Rattle.records.specs.Words.{records-of, record-words}
 use Rattle.desk.specs.declared.state.State.{State}
 
 abbrev pub state-words : ℕ
 state-words = 1 + 2 * writes-limit
-
--- the records that a row of words says, two words each
-unfoldable pub records-of : List ℕ → List Record
-records-of [] = []
-records-of (addr ∷ []) = []
-records-of (addr ∷ (len ∷ words)) = record { addr = addr; len = len } ∷ records-of words
-
-unfoldable pub record-words : List Record → List ℕ
-record-words [] = []
-record-words (r ∷ rs) = r .addr ∷ (r .len ∷ record-words rs)
 
 abbrev pub state-of : List ℕ → State
 state-of words = record { count = getD words 0 0; records = records-of (drop 1 words) }

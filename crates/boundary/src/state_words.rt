@@ -1,16 +1,15 @@
 // The state as words: the count, then address and length of each record. `loaded` and `stored` undo
 // each other on a state of the right length (proofs/WordLaws.antt).
 use desk::state::State;
+use records::LIST_WORDS;
+use records::RECORD_WORDS;
 use records::Record;
 use region::WRITES_LIMIT;
 ghost use mathlib.Core.Path.{_≡_};
 ghost use lib.ListN.{length};
 ghost use Rattle.boundary.specs.Words.{state-words, state-of, words-of};
 
-// The words of a record, and of a state.
-const RECORD_WORDS: usize = 2;
-
-pub const STATE_WORDS: usize = 1 + RECORD_WORDS * WRITES_LIMIT;
+pub const STATE_WORDS: usize = 1 + LIST_WORDS;
 
 // What a program that links the library can ask.
 pub fn state_words() -> usize

@@ -1,8 +1,8 @@
 -- The choice points of a log, one record at a time. Assumes nothing.
-use Prim.Native.Nat.{ℕ, _+_, _-_, _≤_, _<_}
-use native.Mathlib.Nat.{add-sub-cancel-left, sub-self, le-refl}
+use Prim.Native.Nat.{ℕ, _+_, _-_, _≤_}
+use native.Mathlib.Nat.{add-sub-cancel-left, le-refl}
 use native.Mathlib.Omega.{arith}
-use mathlib.Core.Path.{_≡_, refl, ap₂}
+use mathlib.Core.Path.{_≡_, refl, ap, ap₂}
 use mathlib.Core.Bool.{true}
 use mathlib.Core.List.{List, [], _∷_}
 use lib.ListN.{length, take, drop, length-drop}
@@ -16,11 +16,9 @@ use Rattle.cuts.specs.Number.{choice-points}
 use Rattle.cuts.proofs.Choices.{points-of-one-more}
 use Rattle.desk.specs.State.{log-records, together, writes-of, records-inside}
 use Rattle.desk.specs.Desk.{Desk, chunk-size, view, sound}
-use Rattle.walks.specs.Log.{last-records, Remaining}
+use Rattle.walks.specs.Log.{records-left}
 use Rattle.records.specs.declared.Record.{Record}
-use Rattle.desk.specs.declared.state.State.{State}
-use Rattle.desk.proofs.Records.{next-and-rest}
-use Rattle.walks.proofs.Walk.{oldest}
+use Rattle.walks.proofs.Walk.{record-here, Step}
 use Rattle.walks.proofs.KeptLaws.{touched-le}
 use Rattle.desk.proofs.Soundness.{sound-facts}
 use Rattle.engine.specs.Count.{record-points}
@@ -44,17 +42,11 @@ inside-longer L M (r ∷ rs) h e =
 pub piece-length : (at n : ℕ) (log : List ℕ) → at + n ≤ length log → length (take (at + n - at) (drop at log)) ≡ n
 piece-length at n log h = rw (add-sub-cancel-left at n) (length-take-le n (drop at log) (omega (arith, length-drop at log)))
 
--- the points of the oldest remaining write, and of those after it
-pub points-more : (C : ℕ) {L : ℕ} {st : State} {n at left : ℕ} → Remaining L st n at left → 0 < left
-    → record-points C (last-records st left) ≡ touched C (oldest st left .addr) (oldest st left .len) + record-points C (last-records st (left - 1))
+-- the points of the next write, and of those after it
+pub points-more : (C : ℕ) {L : ℕ} {words : List ℕ} {next left n at : ℕ} → Step L words next left n at → let r = record-here words next in
+    record-points C (records-left words next left) ≡ touched C (r .addr) (r .len) + record-points C (records-left words (next + 1) (left - 1))
 unfolding record-points
-points-more C {st = st} {left = left} r p =
-    let follow : st .count - left + 1 ≡ st .count - (left - 1) = omega (arith, r .some) in
-    rw (next-and-rest st (st .count - left) (omega (arith, r .some)) (omega (arith, r .sized, r .few)), follow)
-
--- all points of the log
-pub all-points : (C : ℕ) (st : State) → record-points C (last-records st (st .count)) ≡ record-points C (log-records st)
-all-points C st = rw sub-self
+points-more C s = ap (record-points C) (s .records)
 
 -- a log has no more points than bytes
 pub record-points-le : (rs : List Record) → record-points const-persistence-chunk-size rs ≤ together rs

@@ -6,10 +6,8 @@ use mathlib.Core.Bool.{true}
 use mathlib.Core.List.{List, [], _∷_}
 use lib.ListN.{length}
 use Rattle.region.specs.Limits.{image-limit, writes-limit, log-limit}
-use Rattle.pieces.specs.AsyncSpec.{size-to-chunks, flush-writes-selective}
-use Rattle.pieces.specs.Choice.{touched, rows-of}
+use Rattle.pieces.specs.Choice.{touched}
 use Rattle.desk.specs.State.{log-records, together, records-inside}
-use Rattle.walks.specs.Log.{last-writes}
 use Rattle.records.specs.declared.Record.{Record}
 use Rattle.desk.specs.declared.state.State.{State}
 
@@ -23,8 +21,3 @@ pub record Countable (st : State) : Type 0 where
   pub few : st .count ≤ writes-limit
   pub inside : records-inside image-limit (log-records st) ≡ true
   pub room : together (log-records st) ≤ log-limit
-
--- the last `left` writes replayed over an image by the chunks that choice number m keeps
-abbrev pub replayed-by-choice : (C : ℕ) (image : List ℕ) → State → (left : ℕ) (log : List ℕ) (at m : ℕ) → List ℕ
-replayed-by-choice C image st left log at m =
-    flush-writes-selective C image (last-writes st left log at) (rows-of C (size-to-chunks C (length image)) (last-writes st left log at) m)

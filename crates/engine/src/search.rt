@@ -3,6 +3,7 @@ use crate::trial::trial;
 use desk::state::State;
 use sheet::Judged;
 use sheet::judge;
+use walks::words::record_words;
 ghost use mathlib.Core.Path.{_≡_};
 ghost use lib.ListN.{length};
 ghost use Rattle.sheet.specs.Sheet.{allows};
@@ -42,10 +43,21 @@ pub fn search(
     ensures { λ r. ⌜ Searches (desk (now (image .entry)) state (now (log .entry)))
         (write-of addr (now (bytes .entry))) (now (sheet .entry)) r (now (work .exit)) ⌝ }
 {
+    let words = record_words(state);
     let last = (1 << points) - 1;
     let mut m = 0;
     while m <= last {
-        trial(state, image, log, work, addr, bytes, points, m);
+        trial(
+            &words,
+            state.count,
+            image,
+            log,
+            work,
+            addr,
+            bytes,
+            points,
+            m,
+        );
         if !obeyed(sheet, work) {
             return Outcome::FirstBad(m);
         }

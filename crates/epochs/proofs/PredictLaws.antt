@@ -1,14 +1,12 @@
 -- The predicted image is what the log's own replay leaves over a copy of the image. Assumes nothing.
 use Prim.Native.Nat.{ℕ, _+_, _≤_}
-use mathlib.Core.Path.{_≡_, sym, ap, ap₂, _∙_}
+use mathlib.Core.Path.{_≡_, sym, ap, _∙_}
 use mathlib.Core.Bool.{true, false}
 use mathlib.Core.List.{List}
 use lib.ListN.{length}
 use Rattle.region.proofs.Booleans.{cond-when, cond-unless}
-use Rattle.pieces.specs.AsyncSpec.{Write, AsyncView, size-to-chunks, committed, readable, flush-writes, flush-writes-selective, flush-selective}
-use Rattle.desk.specs.Desk.{Desk, chunk-size, chunks, view}
-use Rattle.walks.specs.Log.{last-writes, replayed-whole, replayed-by-rows}
-use Rattle.walks.proofs.Walk.{all-writes}
+use Rattle.pieces.specs.AsyncSpec.{AsyncView, size-to-chunks, readable, flush-selective}
+use Rattle.desk.specs.Desk.{Desk, desk, chunk-size, chunks, view}
 use Rattle.desk.proofs.Views.{writes-counted}
 use Rattle.epochs.specs.Epoch.{flush-foretold, epoch-rows}
 use Rattle.epochs.specs.Foretold.{predicted-image, predicted-now}
@@ -27,16 +25,16 @@ module _ (d : Desk) (tape : List ℕ) (start : ℕ) {s : List ℕ} (same : s ≡
   abbrev C : ℕ
   C = chunk-size d
 
-  walked : last-writes (d .state) (d .state .count) (d .log) 0 ≡ view d .outstanding-writes
-  walked = all-writes (d .state) (d .log)
+  -- the desk with that copy for its image
+  abbrev copied : Desk
+  copied = desk s (d .state) (d .log)
 
-  pub whole-replay-is-predicted : flush-foretold tape start ≡ true → replayed-whole s (d .state) (d .state .count) (d .log) 0 ≡ predicted-now d tape start
-  whole-replay-is-predicted e =
-      ap₂ (λ (s : List ℕ) (ws : List Write). committed (flush-writes s ws)) same walked ∙ sym (predicted-flush C tape start (view d) e)
+  pub whole-replay-is-predicted : flush-foretold tape start ≡ true → readable (view copied) ≡ predicted-now d tape start
+  whole-replay-is-predicted e = ap (λ (s : List ℕ). readable (view (desk s (d .state) (d .log)))) same ∙ sym (predicted-flush C tape start (view d) e)
 
   pub selected-replay-is-predicted : d .state .count ≤ length (d .state .records) → flush-foretold tape start ≡ false
-      → replayed-by-rows C s (d .state) (d .state .count) (d .log) 0 tape (start + 1) ≡ predicted-now d tape start
+      → flush-selective C (view copied) (epoch-rows (chunks copied) (d .state .count) tape start) ≡ predicted-now d tape start
   selected-replay-is-predicted few e =
-      ap₂ (λ (s : List ℕ) (ws : List Write). flush-writes-selective C s ws (epoch-rows (size-to-chunks C (length s)) (d .state .count) tape start)) same walked
+      ap (λ (s : List ℕ). flush-selective C (view (desk s (d .state) (d .log))) (epoch-rows (size-to-chunks C (length s)) (d .state .count) tape start)) same
       ∙ ap (λ (n : ℕ). flush-selective C (view d) (epoch-rows (chunks d) n tape start)) (sym (writes-counted d few))
       ∙ sym (predicted-cut C tape start (view d) e)

@@ -4,8 +4,8 @@ use desk::state::State;
 use pieces::lay::lay;
 use pieces::rows::row_bytes;
 use region::chunks::size_to_chunks;
-use walks::log::replay_selected;
-use walks::log::replay_whole;
+use walks::selected::replay_selected;
+use walks::whole::replay_whole;
 ghost use mathlib.Core.Path.{_≡_};
 ghost use lib.ListN.{length};
 ghost use Rattle.desk.specs.Desk.{desk};
@@ -25,18 +25,9 @@ pub fn predict(
 {
     lay(predicted, 0, image);
     if flush_foretold(tape, start) {
-        replay_whole(state, log, predicted, 0, state.count);
+        replay_whole(state, log, predicted);
         return;
     }
     let width = row_bytes(size_to_chunks(image.len()));
-    replay_selected(
-        state,
-        log,
-        tape,
-        width,
-        predicted,
-        0,
-        start + 1,
-        state.count,
-    );
+    replay_selected(state, log, tape, width, predicted, start + 1);
 }

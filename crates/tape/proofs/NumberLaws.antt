@@ -14,13 +14,12 @@ use Rattle.region.proofs.Booleans.{cond-when, cond-unless, and-when, and-unless
 use Rattle.pieces.specs.AsyncSpec.{Write, size-to-chunks}
 use Rattle.desk.specs.State.{sound-for, record-of, room-number}
 use Rattle.desk.specs.Desk.{chunk-size, chunks, sound, with-write}
-use Rattle.walks.specs.Log.{KeptFrom}
+use Rattle.walks.specs.Kept.{KeptFrom}
 use Rattle.records.specs.declared.Record.{Record}
 use Rattle.desk.specs.declared.state.State.{State}
 use Rattle.desk.proofs.RoomLaws.{room-done}
-use Rattle.desk.proofs.Soundness.{SoundFor, Sound, sound-facts, Room}
+use Rattle.desk.proofs.Soundness.{SoundFor, Sound, sound-facts, facts-sound, Room}
 use Rattle.desk.proofs.Views.{sized-of-appended, sound-after-recorded}
-use Rattle.walks.proofs.Walk.{all-remain}
 use Rattle.writelog.specs.Write.{write-number}
 use Rattle.writelog.proofs.WriteLaws.{write-sound}
 use Rattle.epochs.specs.Epoch.{flush-foretold, epoch-number}
@@ -105,9 +104,9 @@ module _ {t : TapeDesk} {tape : List ℕ} {w : Write} where
       let st = t .memory .state in
       let after = sound-after-recorded (t .memory) w sized (told .facts) (told .room) in
       record {
-        short = told .facts .short;
-        walk = all-remain _ (with-write (t .memory) w .state) _ (sized-of-appended st (record-of w) sized) after;
-        sized = told .same;
+        sized = sized-of-appended st (record-of w) sized;
+        good = facts-sound _ (with-write (t .memory) w .state) _ after;
+        same = told .same;
         rows = told .epoch .there .fits;
       }
 
@@ -154,7 +153,7 @@ module _ {flushing : Bool} {t : TapeDesk} {tape : List ℕ} (sized : length (t .
   -- the prediction may be made, and the rows counted where they lie
   pub predictable-now : Predictable (t .memory) tape (t .start) (length (t .predicted))
   predictable-now =
-      record { short = e .facts .short; walk = all-remain _ (t .memory .state) _ sized (e .facts); sized = e .same; rows = e .epoch .there .fits }
+      record { sized = sized; good = facts-sound _ (t .memory .state) _ (e .facts); same = e .same; rows = e .epoch .there .fits }
 
   pub kept-from-start : KeptFrom (chunk-size (t .memory)) (length (t .memory .image)) (t .memory .state) (length tape) (t .start + 1)
   kept-from-start =

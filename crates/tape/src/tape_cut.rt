@@ -2,7 +2,7 @@
 use crate::ending::end_epoch;
 use desk::state::State;
 use region::Answer;
-use walks::log::kept;
+use walks::kept_count::kept;
 use writelog::cut::CutAnswer;
 ghost use Rattle.desk.specs.Desk.{desk};
 ghost use Rattle.tape.specs.Memory.{by-tape};

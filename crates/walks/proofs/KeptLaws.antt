@@ -17,7 +17,7 @@ use Rattle.pieces.specs.Kept.{kept, kept-of}
 use Rattle.pieces.proofs.ByteBits.{set-bits-agree, set-bits-le}
 use Rattle.pieces.proofs.RowBits.{one-less, row-at-bit, rows-at-more}
 use Rattle.desk.specs.State.{log-records, together, records-inside, writes-of}
-use Rattle.walks.specs.Log.{kept-records, KeptFrom}
+use Rattle.walks.specs.Kept.{kept-records, KeptFrom}
 use Rattle.records.specs.declared.Record.{Record}
 use Rattle.desk.specs.declared.state.State.{State}
 use Rattle.desk.proofs.Records.{next, rest, next-and-rest, together-more, inside-more, records-none}

@@ -1,2 +1,3 @@
--- The definitions that `walks`' contracts cite: what a walk over the log has before it and leaves.
+-- The definitions that `walks`' contracts cite: what a replay of the log has before it and leaves (`Log`), and the kept count over records (`Kept`).
 pub mod Log
+pub mod Kept

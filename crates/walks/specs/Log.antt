@@ -1,54 +1,38 @@
--- Inner: what a walk over the log has before it, the last `left` records, the oldest of which has its bytes at `at`, and what it leaves.
-use Prim.Native.Nat.{ℕ, _+_, _-_, _*_, _≤_}
+-- Inner: what a replay has before it, `left` records of those that words say, from `next` on, the first of which has its bytes at `at`, and what it leaves.
+use Prim.Native.Nat.{ℕ, _+_, _*_, _^_, _≤_, _<_}
 use mathlib.Core.Path.{_≡_}
-use mathlib.Core.Bool.{Bool, true, false}
-use mathlib.Core.List.{List, [], _∷_}
-use lib.ListN.{length, getD, drop}
+use mathlib.Core.Bool.{true}
+use mathlib.Core.List.{List}
+use lib.ListN.{length, take, drop}
 use Rattle.region.specs.Limits.{image-limit, writes-limit, log-limit}
-use Rattle.pieces.specs.AsyncSpec.{Write, addr-to-chunk, size-to-chunks, committed, flush-writes, flush-writes-selective}
-use Rattle.pieces.specs.Choice.{touched}
-use Rattle.pieces.specs.Rows.{set-bits, row-bytes, rows-at}
-use Rattle.desk.specs.State.{log-records, together, writes-of, records-inside}
+use Rattle.pieces.specs.AsyncSpec.{size-to-chunks, committed, flush-writes, flush-writes-selective}
+use Rattle.pieces.specs.Rows.{row-bytes, rows-at}
+use Rattle.records.specs.Words.{records-of}
 use Rattle.records.specs.declared.Record.{Record}
-use Rattle.desk.specs.declared.state.State.{State}
+use Rattle.desk.specs.State.{together, writes-of, records-inside}
 
-abbrev pub last-records : State → ℕ → List Record
-last-records st left = drop (st .count - left) (log-records st)
+abbrev pub records-left : (words : List ℕ) (next left : ℕ) → List Record
+records-left words next left = take left (drop next (records-of words))
 
-abbrev pub last-writes : State → (left : ℕ) (log : List ℕ) (at : ℕ) → List Write
-last-writes st left log at = writes-of (last-records st left) (drop at log)
+-- they are there, they lie inside the image, and their bytes inside the buffer
+pub record Remaining (L : ℕ) (words : List ℕ) (next left log-length at : ℕ) : Type 0 where
+  pub sized : length words ≡ 2 * writes-limit
+  pub there : next + left ≤ writes-limit
+  pub short : L ≤ image-limit
+  pub buffer : log-length ≤ log-limit
+  pub inside : records-inside L (records-left words next left) ≡ true
+  pub room : at + together (records-left words next left) ≤ log-length
 
--- they lie inside the image, and their bytes inside the buffer
-pub record Remaining (L : ℕ) (st : State) (log-length at left : ℕ) : Type 0 where
-  pub sized : length (st .records) ≡ writes-limit
-  pub few : st .count ≤ writes-limit
-  pub some : left ≤ st .count
-  pub inside : records-inside L (last-records st left) ≡ true
-  pub room : at + together (last-records st left) ≤ log-length
+-- so are their rows, from `row` on, each of the width that an image of L bytes asks
+pub record RowsRemaining (C L width left table-length row : ℕ) : Type 0 where
+  pub wide : width ≡ row-bytes (size-to-chunks C L)
+  pub there : row + left * width ≤ table-length
+  pub counted : table-length < 2 ^ 64
 
 -- they are replayed over an image whole, and by the rows that lie in a table from `row` on
-abbrev pub replayed-whole : (image : List ℕ) (st : State) (left : ℕ) (log : List ℕ) (at : ℕ) → List ℕ
-replayed-whole image st left log at = committed (flush-writes image (last-writes st left log at))
+abbrev pub replayed-whole : (image : List ℕ) → List Record → (log : List ℕ) (at : ℕ) → List ℕ
+replayed-whole image rs log at = committed (flush-writes image (writes-of rs (drop at log)))
 
-abbrev pub replayed-by-rows : (C : ℕ) (image : List ℕ) (st : State) (left : ℕ) (log : List ℕ) (at : ℕ) (table : List ℕ) (row : ℕ) → List ℕ
-replayed-by-rows C image st left log at table row =
-    flush-writes-selective C image (last-writes st left log at) (rows-at (size-to-chunks C (length image)) left table row)
-
--- The kept count goes by addresses and lengths alone, so it needs no bytes: this is `kept` of the records' writes (`proofs/KeptLaws.antt`).
-unfoldable pub kept-records : ℕ → List Record → List (List Bool) → ℕ
-kept-records C [] rows = 0
-kept-records C (r ∷ rs) rows =
-    set-bits (λ c. getD (getD rows 0 []) c false) (addr-to-chunk C (r .addr)) (touched C (r .addr) (r .len)) + kept-records C rs (drop 1 rows)
-
--- the pieces that the rows from `row` on keep of a state's log, over an image of L bytes
-abbrev pub kept-by-table : (C L : ℕ) → State → (table : List ℕ) (row : ℕ) → ℕ
-kept-by-table C L st table row = kept-records C (log-records st) (rows-at (size-to-chunks C L) (st .count) table row)
-
--- what the count asks of a sound state, and of the place of its rows
-pub record KeptFrom (C L : ℕ) (st : State) (table-length row : ℕ) : Type 0 where
-  pub sized : length (st .records) ≡ writes-limit
-  pub short : L ≤ image-limit
-  pub few : st .count ≤ writes-limit
-  pub inside : records-inside L (log-records st) ≡ true
-  pub room : together (log-records st) ≤ log-limit
-  pub right : row + st .count * row-bytes (size-to-chunks C L) ≤ table-length
+abbrev pub replayed-by-rows : (C : ℕ) (image : List ℕ) → List Record → (log : List ℕ) (at left : ℕ) (table : List ℕ) (row : ℕ) → List ℕ
+replayed-by-rows C image rs log at left table row =
+    flush-writes-selective C image (writes-of rs (drop at log)) (rows-at (size-to-chunks C (length image)) left table row)

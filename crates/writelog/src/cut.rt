@@ -7,8 +7,8 @@ use pieces::rows::row_bytes;
 use pieces::rows::rows_filled;
 use region::Refusal;
 use region::chunks::size_to_chunks;
-use walks::log::kept;
-use walks::log::replay_selected;
+use walks::kept_count::kept;
+use walks::selected::replay_selected;
 ghost use mathlib.Core.Path.{_≡_};
 ghost use Prim.Native.Nat.{_≤_};
 ghost use Rattle.region.specs.Limits.{image-limit, writes-limit, const-persistence-chunk-size};
@@ -59,7 +59,7 @@ pub fn cut(state: State, image: &mut [u8], log: &[u8], rows: &[u8]) -> AfterCut
         };
     }
     let width = row_bytes(size_to_chunks(size));
-    replay_selected(state, log, rows, width, image, 0, 0, state.count);
+    replay_selected(state, log, rows, width, image, 0);
     AfterCut {
         answer: CutAnswer::Kept(kept(state, size, rows, 0)),
         state: emptied(state),

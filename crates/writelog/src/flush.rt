@@ -5,7 +5,7 @@ use desk::state::checked;
 use desk::state::emptied;
 use region::Answer;
 use region::Refusal;
-use walks::log::replay_whole;
+use walks::whole::replay_whole;
 ghost use Rattle.desk.specs.Desk.{desk};
 ghost use Rattle.writelog.specs.Flush.{Flushes};
 
@@ -24,7 +24,7 @@ pub fn flush(state: State, image: &mut [u8], log: &[u8]) -> Flushed
             state,
         };
     };
-    replay_whole(state, log, image, 0, state.count);
+    replay_whole(state, log, image);
     Flushed {
         answer: Answer::Done,
         state: emptied(state),

@@ -6,7 +6,7 @@ use desk::state::within;
 use pieces::lay::lay;
 use region::Answer;
 use region::Refusal;
-use walks::log::replay_whole;
+use walks::whole::replay_whole;
 ghost use mathlib.Core.Path.{_≡_};
 ghost use lib.ListN.{length};
 ghost use Rattle.region.specs.Answer.{answer-number};
@@ -60,7 +60,7 @@ pub fn read_fill(
         return answer;
     };
     lay(work, 0, image);
-    replay_whole(state, log, work, 0, state.count);
+    replay_whole(state, log, work);
     answer
 }
 

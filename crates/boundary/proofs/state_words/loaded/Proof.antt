@@ -6,8 +6,9 @@ use mathlib.Core.List.{List}
 use lib.ListN.{length, getD, take, drop, length-set}
 use Rattle.region.specs.Limits.{writes-limit}
 use Rattle.records.specs.declared.Record.{Record}
-use Rattle.boundary.specs.Words.{records-of}
-use Rattle.boundary.proofs.WordLaws.{load-more, said-length, front-all}
+use Rattle.records.specs.Words.{records-of}
+use Rattle.records.proofs.ListWords.{front-all}
+use Rattle.boundary.proofs.WordLaws.{load-more, said-length}
 use Rattle.boundary.proofs.state_words.loaded.Statement.{statement}
 use Rattle.boundary.proofs.state_words.loaded.Tie as tie
 

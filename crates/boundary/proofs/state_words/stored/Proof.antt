@@ -6,7 +6,8 @@ use lib.ListN.{length, getD, take, set, length-set, length-map}
 use Rattle.region.specs.Limits.{writes-limit}
 use Rattle.desk.specs.State.{no-record}
 use Rattle.boundary.specs.Words.{state-words, words-of}
-use Rattle.boundary.proofs.WordLaws.{store-more, words-length, front-more, front-all}
+use Rattle.records.proofs.ListWords.{front-more, front-all}
+use Rattle.boundary.proofs.WordLaws.{store-more, words-length}
 use Rattle.boundary.proofs.state_words.stored.Statement.{statement}
 use Rattle.boundary.proofs.state_words.stored.Tie as tie
 

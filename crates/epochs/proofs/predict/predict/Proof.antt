@@ -9,6 +9,7 @@ use Rattle.pieces.specs.AsyncSpec.{size-to-chunks}
 use Rattle.pieces.specs.Rows.{row-bytes}
 use Rattle.pieces.proofs.Laid.{update-whole}
 use Rattle.desk.specs.Desk.{Desk, desk}
+use Rattle.desk.proofs.Soundness.{sound-facts}
 use Rattle.epochs.proofs.PredictLaws.{whole-replay-is-predicted, selected-replay-is-predicted}
 use Rattle.epochs.proofs.predict.predict.Statement.{statement}
 use Rattle.epochs.proofs.predict.predict.Tie as tie
@@ -26,7 +27,7 @@ here c =
 copy-here : (c : tie.After-lay) → c .lay .last .0 ≡ start c .args .image .now
 copy-here c =
     let entry = start c in
-    c .lay .ensures ∙ update-whole (entry .args .predicted .now) (entry .args .image .now) (entry .pre .sized)
+    c .lay .ensures ∙ update-whole (entry .args .predicted .now) (entry .args .image .now) (entry .pre .same)
 
 length-here : (c : tie.After-lay) → length (c .lay .last .0) ≡ length (start c .args .image .now)
 length-here c = ap length (copy-here c)
@@ -34,7 +35,7 @@ length-here c = ap length (copy-here c)
 replay-whole-requires : tie.Need-replay-whole-requires
 replay-whole-requires c κs =
     let lay = c .before .before .before .before .before in
-    rw (length-here lay) (start lay .pre .walk)
+    rw (length-here lay) (start lay .pre .good)
 
 returns : tie.Need-returns
 returns c =
@@ -49,16 +50,16 @@ replay-selected-requires c κs =
     let lay = c .before .before .before .before .before .before .before in
     let entry = start lay in
     let width = c .before .row-bytes .ensures ∙ ap row-bytes (c .before .before .size-to-chunks .ensures) in
-    rw (length-here lay) (entry .pre .walk, (width, omega (arith, entry .pre .rows, ap (λ (w : ℕ). entry .args .state .count * w) width)))
+    rw (length-here lay) (entry .pre .good, (width, omega (arith, entry .pre .rows, ap (λ (w : ℕ). entry .args .state .count * w) width)))
 
 returns-2 : tie.Need-returns-2
 returns-2 c =
     let else1 = c .before .before .before .before .before .before in
     let lay = else1 .before .before .before .before in
     let a = start lay .args in
-    let walk = start lay .pre .walk in
+    let entry = start lay in
     c .before .before .replay-selected .ensures
-    ∙ selected-replay-is-predicted (here lay) (a .tape .now) (a .start) (copy-here lay) (omega (arith, walk .few, walk .sized))
+    ∙ selected-replay-is-predicted (here lay) (a .tape .now) (a .start) (copy-here lay) (omega (arith, sound-facts _ (entry .args .state) _ (entry .pre .good) .few, entry .pre .sized))
     (sym (else1 .before .flush-foretold .ensures) ∙ else1 .if1 .left)
 
 pub predict-spec : {M : Type 1} → statement M

@@ -40,7 +40,7 @@ returns c =
     let laid = c .before .before .before .before .before .lay in
     let predicted = predicted-at c .predict in
     let entry = start c in
-    let sized = predicted .kept .1 .1 .1 .1 .1 .0 ∙ entry .pre .sized in
+    let sized = predicted .kept .1 .1 .1 .1 .1 .0 ∙ entry .pre .same in
     record {
       next-start = ap (λ (k : ℕ). entry .args .start + 1 + k) (rows-are c);
       image-after = laid .ensures ∙ update-whole (entry .args .image .now) _ (sym sized) ∙ predicted .ensures;

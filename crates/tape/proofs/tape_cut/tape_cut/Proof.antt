@@ -8,7 +8,7 @@ use borrow.Author.Needs.{needs}
 use Rattle.region.specs.Answer.{answer-number}
 use Rattle.desk.specs.State.{log-records}
 use Rattle.desk.specs.Desk.{desk, chunk-size}
-use Rattle.walks.specs.Log.{kept-by-table}
+use Rattle.walks.specs.Kept.{kept-by-table}
 use Rattle.walks.proofs.KeptLaws.{kept-by-records}
 use Rattle.tape.specs.Memory.{TapeDesk, by-tape}
 use Rattle.tape.proofs.NumberLaws.{Ending, ending-done, kept-from-start}

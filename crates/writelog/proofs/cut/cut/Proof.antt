@@ -11,12 +11,10 @@ use borrow.Author.Needs.{needs}
 use Rattle.region.specs.declared.Refusal.the-variants.{BadState, BadRows}
 use Rattle.region.proofs.Booleans.{both}
 use Rattle.pieces.specs.Rows.{row-bytes, rows-right}
-use Rattle.pieces.specs.AsyncSpec.{Write, flush-writes-selective}
 use Rattle.desk.specs.State.{log-records}
 use Rattle.desk.specs.Desk.{Desk, desk, chunk-size, chunks}
 use Rattle.desk.specs.declared.state.State.{State}
 use Rattle.walks.proofs.KeptLaws.{kept-by-records}
-use Rattle.walks.proofs.Walk.{all-remain, all-writes}
 use Rattle.desk.proofs.Soundness.{Told, told-bytes, told-unsound}
 use Rattle.writelog.specs.Cut.{desk-rows}
 use Rattle.writelog.proofs.CutLaws.{cut-unsound, cut-bad-rows, cut-good, cuts-done, cuts-refused}
@@ -66,7 +64,7 @@ replay-selected-requires c κs =
     let told = else1 .before .before in
     let a = start told .args in
     let width = c .before .row-bytes .ensures ∙ ap row-bytes (c .before .before .size-to-chunks .ensures) in (
-      all-remain _ (a .state) _ (told .before .before .checked .ensures .1) (told-here told .facts),
+      told-here told .good,
       (width, omega (arith, table-length else1, ap (λ (w : ℕ). a .state .count * w) width)),
     )
 
@@ -94,8 +92,7 @@ returns-3 c =
     cuts-done (cut-good d (start told .args .rows .now) (told-here told .good) (rows-here else1))
     (c .before .kept .ensures ∙ sym (kept-by-records (chunk-size d) (log-records (d .state)) (d .log) rows (omega (arith, facts .room, facts .buffer))))
     (ap₂ (λ (x : List ℕ) (st : State). desk x st (d .log))
-    (c .before .before .before .before .replay-selected .ensures
-    ∙ ap (λ (ws : List Write). flush-writes-selective (chunk-size d) (d .image) ws rows) (all-writes (d .state) (d .log)))
+    (c .before .before .before .before .replay-selected .ensures)
     (c .emptied .ensures))
 
 pub cut-spec : {M : Type 1} → statement M

@@ -1,13 +1,11 @@
 -- `writelog::flush::flush` meets its promise: a sound log is replayed whole over the image. Assumes nothing.
 use Prim.Native.Nat.{ℕ}
-use mathlib.Core.Path.{ap, ap₂, _∙_}
+use mathlib.Core.Path.{ap₂}
 use mathlib.Core.List.{List}
 use lib.ListN.{length}
 use borrow.Author.Needs.{needs}
-use Rattle.pieces.specs.AsyncSpec.{Write, committed, flush-writes}
 use Rattle.desk.specs.Desk.{desk}
 use Rattle.desk.specs.declared.state.State.{State}
-use Rattle.walks.proofs.Walk.{all-remain, all-writes}
 use Rattle.desk.proofs.Soundness.{Told, told-bytes, told-unsound}
 use Rattle.writelog.proofs.FlushLaws.{flushes-done, flushes-refused}
 use Rattle.writelog.proofs.flush.flush.Statement.{statement}
@@ -27,19 +25,14 @@ returns c =
     flushes-refused (told-unsound _ (a .state) _ (c .before .before .checked .ensures .0) (c .enum-told2 .given .1))
 
 replay-whole-requires : tie.Need-replay-whole-requires
-replay-whole-requires c κs =
-    let checked = c .before .before .before in
-    let a = checked .before .before .before .args in
-    all-remain _ (a .state) _ (checked .checked .ensures .1) (told-here (c .before) .facts)
+replay-whole-requires c κs = told-here (c .before) .good
 
 returns-2 : tie.Need-returns-2
 returns-2 c =
     let told = c .before .before .before .before .before in
     let a = start told .args in
     flushes-done (told-here told .good)
-    (ap₂ (λ (x : List ℕ) (st : State). desk x st (a .log .now))
-    (c .before .before .before .replay-whole .ensures ∙ ap (λ (ws : List Write). committed (flush-writes (a .image .now) ws)) (all-writes (a .state) (a .log .now)))
-    (c .emptied .ensures))
+    (ap₂ (λ (x : List ℕ) (st : State). desk x st (a .log .now)) (c .before .before .before .replay-whole .ensures) (c .emptied .ensures))
 
 pub flush-spec : {M : Type 1} → statement M
 flush-spec =

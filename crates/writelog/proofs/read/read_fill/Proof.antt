@@ -1,18 +1,17 @@
 -- `writelog::read::read_fill` meets its promise: the image is laid over the working image, and the log replayed over that. Assumes nothing.
 use Prim.Native.Nat.{ℕ}
 use native.Mathlib.Omega.{arith}
-use mathlib.Core.Path.{_≡_, sym, ap, ap₂, subst⁻¹, _∙_}
+use mathlib.Core.Path.{_≡_, sym, ap, subst⁻¹, _∙_}
+use mathlib.Core.Bool.{true}
 use mathlib.Core.List.{List}
 use lib.ListN.{length}
 use borrow.Author.Needs.{needs}
 use Rattle.region.specs.Answer.{answer-number}
 use Rattle.region.proofs.AnswerLaws.{done-changed, refused-left}
-use Rattle.pieces.specs.AsyncSpec.{Write, committed, flush-writes}
+use Rattle.pieces.specs.AsyncSpec.{readable}
 use Rattle.pieces.proofs.Laid.{update-whole}
-use Rattle.desk.specs.Desk.{Desk, desk}
-use Rattle.walks.specs.Log.{Remaining}
-use Rattle.walks.proofs.Walk.{all-remain, all-writes}
-use Rattle.desk.proofs.Soundness.{sound-facts}
+use Rattle.desk.specs.State.{sound-for}
+use Rattle.desk.specs.Desk.{Desk, desk, view}
 use Rattle.writelog.specs.Read.{read-number}
 use Rattle.writelog.proofs.ReadLaws.{Asked, asked-done}
 use Rattle.writelog.proofs.read.read_fill.Statement.{statement}
@@ -47,8 +46,7 @@ replay-whole-requires : tie.Need-replay-whole-requires
 replay-whole-requires c κs =
     let told = c .before .before .before .before .before in
     let a = start told .args in
-    let walk = all-remain _ (a .state) _ (told .before .before .asked .ensures .1) (sound-facts _ (a .state) _ (asked-here told .good)) in
-    subst⁻¹ (λ (n : ℕ). Remaining n (a .state) (length (a .log .now)) 0 (a .state .count)) (c .before .before .before .lay .kept .0 ∙ asked-here told .whole) walk
+    subst⁻¹ (λ (n : ℕ). sound-for n (a .state) (length (a .log .now)) ≡ true) (c .before .before .before .lay .kept .0 ∙ asked-here told .whole) (asked-here told .good)
 
 returns-2 : tie.Need-returns-2
 returns-2 c =
@@ -59,7 +57,7 @@ returns-2 c =
       answers = told .before .before .asked .ensures .0;
       fills =
           c .before .before .replay-whole .ensures
-          ∙ ap₂ (λ (w : List ℕ) (ws : List Write). committed (flush-writes w ws)) laid (all-writes (a .state) (a .log .now))
+          ∙ ap (λ (x : List ℕ). readable (view (desk x (a .state) (a .log .now)))) laid
           ∙ done-changed _ (done-here told);
     }
 
