@@ -9,10 +9,13 @@
  *
  * Every function here is proved: it ends, stays inside the memory that it is lent, and answers and leaves behind
  * exactly what is said below, for all inputs. None trusts its caller to have checked anything. What no proof can
- * see is the caller's one duty:
+ * see are the caller's two duties:
  *
  *     Each pointer leads to as many elements as the length after it says (`report` and `start` to one number), and
  *     no buffer that a call may change overlaps another buffer of the same call.
+ *
+ *     The stack that a call runs on has SKALDRIFT_STACK_BYTES left. This is measured, not proved: `./stack` runs each
+ *     function with a full log and the deepest sheet, on this archive, and fails if one needs more.
  *
  * A buffer that a call may change is one without `const`. A null pointer is fine where the length is 0; `report` and
  * `start` are never null. The library keeps nothing between calls, so threads need a lock only for a buffer that one of
@@ -131,6 +134,8 @@ extern "C" {
 #define SKALDRIFT_POINTS_LIMIT 16
 #define SKALDRIFT_ROUNDS_LIMIT 1000
 #define SKALDRIFT_CHUNK_SIZE 8
+/* The stack that a caller provides. */
+#define SKALDRIFT_STACK_BYTES 8192
 /* The chunks of an image of L bytes, and the bytes of a row for it. */
 #define SKALDRIFT_CHUNKS(L) (((L) + SKALDRIFT_CHUNK_SIZE - 1) / SKALDRIFT_CHUNK_SIZE)
 #define SKALDRIFT_ROW_BYTES(L) ((SKALDRIFT_CHUNKS(L) + 7) / 8)

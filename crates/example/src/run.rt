@@ -1,6 +1,5 @@
 // `run` of `ExampleApp`. The source runs for ever; here the rounds are counted.
 use crate::ROUNDS_LIMIT;
-use desk::state::State;
 use desk::state::fresh;
 use gate::open::open;
 use region::Answer;
@@ -9,10 +8,12 @@ use region::LOG_LIMIT;
 use region::Refusal;
 use rounds::RunAnswer;
 use rounds::app_sheet::app_sheet;
-use rounds::round::round;
+use rounds::round::pair;
 ghost use mathlib.Core.Path.{_≡_};
 ghost use Rattle.region.specs.Answer.{answer-number};
+ghost use Rattle.desk.specs.State.{fresh};
 ghost use Rattle.desk.specs.Desk.{desk};
+ghost use Rattle.gate.specs.Opening.{Opens};
 ghost use Rattle.rounds.specs.Steps.{Under};
 ghost use Rattle.example.specs.Run.{fits-number, Runs, Repeats};
 
@@ -38,9 +39,8 @@ fn fits(image: usize, log: usize, work: usize, addr: usize, rounds: u64) -> Answ
     Answer::Done
 }
 
-// The rounds. Stops at the first refusal; none comes.
+// The rounds, from a fresh state on: val0, val1, and back. Stops at the first refusal; none comes.
 fn repeat(
-    state: State,
     image: &mut [u8],
     log: &mut [u8],
     sheet: &[u8],
@@ -50,23 +50,38 @@ fn repeat(
     val1: u8,
     rounds: u64,
 ) -> RunAnswer
-    requires { ⌜ Under (desk (now image) state (now log)) (now sheet) (now work) addr val0 val1 ⌝ }
+    requires { ⌜ Under (desk (now image) fresh (now log)) (now sheet) (now work) addr val0 val1 ⌝ }
     ensures { λ r. ⌜ Repeats (now (image .entry)) (now (log .entry)) (now (work .entry)) addr val0 val1 rounds
         r (now (image .exit)) (now (log .exit)) (now (work .exit)) ⌝ }
 {
-    let mut current = state;
+    let mut current = fresh();
     let mut done = 0;
     while done < rounds {
-        let stepped = round(current, image, log, sheet, work, addr, val0, val1);
-        let answer = stepped.answer;
+        let there = pair(current, image, log, sheet, work, addr, val0, val1);
+        let answer = there.answer;
         let RunAnswer::Done = answer else {
             return answer;
         };
-        let next = stepped.state;
-        current = next;
+        let back = pair(there.state, image, log, sheet, work, addr, val1, val0);
+        let answer = back.answer;
+        let RunAnswer::Done = answer else {
+            return answer;
+        };
+        current = back.state;
         done += 1;
     }
     RunAnswer::Done
+}
+
+// Opens the image under the sheet. The state is fresh before and after, done or refused, so nobody
+// carries it out.
+fn opening(image: &[u8], log: &[u8], sheet: &[u8]) -> Answer
+    ensures { λ r. ⌜ Opens (desk (now (image .entry)) fresh (now (log .entry))) (now (sheet .entry)) r
+        (desk (now (image .entry)) fresh (now (log .entry))) ⌝ }
+{
+    let opened = open(fresh(), image, log, sheet);
+    let answer = opened.answer;
+    answer
 }
 
 // Opens the image under the example's sheet, and goes the rounds.
@@ -87,11 +102,9 @@ pub fn run(
         return RunAnswer::Refused(why);
     }
     let sheet = app_sheet(addr, val0, val1);
-    let opened = open(fresh(), image, log, &sheet);
-    let answer = opened.answer;
+    let answer = opening(image, log, &sheet);
     if let Answer::Refused(why) = answer {
         return RunAnswer::Refused(why);
     }
-    let state = opened.state;
-    repeat(state, image, log, &sheet, work, addr, val0, val1, rounds)
+    repeat(image, log, &sheet, work, addr, val0, val1, rounds)
 }

@@ -10,9 +10,7 @@ use lib.Seq.{set-set}
 use borrow.Author.Tests.{ltb-true, eq-eqb}
 use lib.Dec.{ltb, eqb}
 use Rattle.region.specs.Limits.{writes-limit, points-limit}
-use Rattle.region.specs.Answer.{answer-number}
 use Rattle.region.specs.Pmemspec.{update-bytes}
-use Rattle.region.specs.declared.Answer.{Answer}
 use Rattle.region.proofs.Booleans.{both, both-true}
 use Rattle.region.proofs.AnswerLaws.{changed}
 use Rattle.pieces.specs.AsyncSpec.{AsyncView, Write, write, readable}
@@ -21,19 +19,18 @@ use Rattle.sheet.specs.Sheet.{obeys, allows}
 use Rattle.sheet.proofs.Laws.{obeyed-is-formed}
 use Rattle.desk.specs.State.{log-records, together, writes-of, record-of}
 use Rattle.desk.specs.Desk.{Desk, chunk-size, view, with-write, settled-desk}
-use Rattle.writelog.specs.Flush.{Flushes}
 use Rattle.records.specs.declared.Record.{Record}
 use Rattle.desk.proofs.Soundness.{Sound, facts-sound, Room}
 use Rattle.writelog.proofs.FlushLaws.{flush-sound}
 use Rattle.desk.proofs.Views.{together-last, records-of-appended, sized-of-appended, view-of-recorded, sound-after-recorded, sound-after-settled}
-use Rattle.gate.specs.Judgement.{gate-points, Gates}
+use Rattle.gate.specs.Judgement.{gate-points, verdict-report, Gates}
 use Rattle.gate.specs.Meaning.{Fits, could-leave}
 use Rattle.gate.specs.declared.Verdict.{Verdict}
 use Rattle.gate.specs.declared.Verdict.the-variants.{Admitted}
 use Rattle.gate.proofs.JudgementLaws.{admitted-number}
 use Rattle.gate.proofs.Meaning.{gate-means}
 use Rattle.rounds.specs.Valid.{one-of, app-valid}
-use Rattle.rounds.specs.Steps.{Under, Goes}
+use Rattle.rounds.specs.Steps.{Under, WritesBoth, Settles, Goes}
 use Rattle.rounds.specs.Answer.{run-answer-number}
 use Rattle.rounds.specs.declared.RunAnswer.{RunAnswer}
 use Rattle.rounds.specs.declared.RunAnswer.the-variants.{Done}
@@ -195,15 +192,23 @@ module _ {d : Desk} {sheet work : List ℕ} {addr a b : ℕ} (u : Under d sheet 
         → Gated with-one addr b answer d′ work′
     twice g = gate-goes logged-one here (omega arith) b a b long (u .good) (u .says) both-of-two (rw (g₁ .leaves) at g)
 
-  pub pair-goes : {second : Verdict} {d₂ : Desk} {work₂ : List ℕ} → Gated with-one addr b second d₂ work₂
-      → {answer : Answer} {d′ : Desk} → Flushes d₂ answer d′ → {told : RunAnswer} → run-answer-number told ≡ answer-number answer
-      → Goes d addr a b told d′ work₂
-  pair-goes g₂ {answer} {d′} f {told} e =
-      let flushes : Flushes with-both answer d′ = rw (g₂ .leaves) at f in
-      let none = flush-sound with-both (facts-sound _ _ _ (logged-both .facts)) in
-      let left = changed with-both (flushes .leaves) none in
+  pub both-written : {second : Verdict} {d₂ : Desk} {work₂ : List ℕ} → Gated with-one addr b second d₂ work₂
+      → {told : RunAnswer} → run-answer-number told ≡ verdict-report second .number → WritesBoth d addr a b told d₂ work₂
+  both-written g₂ {told} e =
       record {
-        answers = run-answers-by-number told Done (e ∙ flushes .answers ∙ none);
+        answers = run-answers-by-number told Done (e ∙ ap (λ v. verdict-report v .number) (g₂ .admitted));
+        leaves = g₂ .leaves;
+        work-after = g₂ .work-after;
+      }
+
+  pub pair-goes : {first : RunAnswer} {d₂ : Desk} {work₂ : List ℕ} → WritesBoth d addr a b first d₂ work₂
+      → {told : RunAnswer} {d′ : Desk} → Settles d₂ told d′ → Goes d addr a b told d′ work₂
+  pair-goes g₂ {told} {d′} f =
+      let settles : Settles with-both told d′ = rw (g₂ .leaves) at f in
+      let none = flush-sound with-both (facts-sound _ _ _ (logged-both .facts)) in
+      let left = changed with-both (settles .leaves) none in
+      record {
+        answers = run-answers-by-number told Done (settles .answers ∙ none);
         idle = rw left (record { sized = logged-both .sized; empty = refl });
         image-after = ap (λ (x : Desk). x .image) left ∙ ap readable (logged-both .seen) ∙ last-read addr b (a ∷ []) (d .image) here;
         log-after = ap (λ (x : Desk). x .log) left

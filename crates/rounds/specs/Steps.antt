@@ -2,11 +2,15 @@
 use Prim.Native.Nat.{ℕ, _≤_}
 use mathlib.Core.Path.{_≡_}
 use mathlib.Core.Bool.{true}
-use mathlib.Core.List.{List}
+use mathlib.Core.List.{List, [], _∷_}
 use lib.ListN.{length, set}
+use Rattle.region.specs.Answer.{if-done}
 use Rattle.region.specs.Limits.{image-limit, writes-limit, log-limit}
+use Rattle.pieces.specs.AsyncSpec.{write-of, readable}
 use Rattle.sheet.specs.Sheet.{obeys}
-use Rattle.desk.specs.Desk.{Desk}
+use Rattle.desk.specs.Desk.{Desk, view, with-write, settled-desk}
+use Rattle.writelog.specs.Flush.{flush-number}
+use Rattle.rounds.specs.Answer.{run-answer-number}
 use Rattle.rounds.specs.Valid.{app-valid}
 use Rattle.rounds.specs.declared.RunAnswer.{RunAnswer}
 use Rattle.rounds.specs.declared.RunAnswer.the-variants.{Done}
@@ -24,6 +28,17 @@ pub record Under (d : Desk) (sheet work : List ℕ) (addr a b : ℕ) : Type 0 wh
   pub same : length work ≡ length (d .image)
   pub good : app-valid addr a b (d .image) ≡ true
   pub says : (before after : List ℕ) → obeys sheet before after ≡ app-valid addr a b after
+
+-- what writing first and then second at addr through the gate leaves: both in the log, and the last value in the working image
+pub record WritesBoth (d : Desk) (addr first second : ℕ) (answer : RunAnswer) (d′ : Desk) (work′ : List ℕ) : Type 0 where
+  pub answers : answer ≡ Done
+  pub leaves : d′ ≡ with-write (with-write d (write-of addr (first ∷ []))) (write-of addr (second ∷ []))
+  pub work-after : work′ ≡ set (d .image) addr second
+
+-- a flush, as a step of a run
+pub record Settles (d : Desk) (answer : RunAnswer) (d′ : Desk) : Type 0 where
+  pub answers : run-answer-number answer ≡ flush-number d
+  pub leaves : d′ ≡ if-done (flush-number d) (settled-desk d (readable (view d))) d
 
 -- what writing first and then second at addr leaves, once it is flushed: the log empty, and the last value in the image and in the working image
 pub record Goes (d : Desk) (addr first second : ℕ) (answer : RunAnswer) (d′ : Desk) (work′ : List ℕ) : Type 0 where

@@ -1,4 +1,4 @@
-// A round of the example: two pairs of writes through the gate, each pair flushed.
+// Half a round of the example: a pair of writes through the gate, flushed. A round is val0, val1, and back.
 use crate::RunAnswer;
 use desk::state::State;
 use gate::Verdict;
@@ -10,11 +10,11 @@ ghost use Rattle.region.specs.Answer.{answer-number};
 ghost use Rattle.desk.specs.Desk.{desk};
 ghost use Rattle.gate.specs.Judgement.{verdict-report};
 ghost use Rattle.rounds.specs.Answer.{run-answer-number};
-ghost use Rattle.rounds.specs.Steps.{Under, Goes};
+ghost use Rattle.rounds.specs.Steps.{Under, WritesBoth, Settles, Goes};
 
 pub struct Stepped {
-    pub answer: RunAnswer,
     pub state: State,
+    pub answer: RunAnswer,
 }
 
 // The answer of a run that stops at this verdict: its number.
@@ -38,8 +38,54 @@ fn settled(answer: Answer) -> RunAnswer
     }
 }
 
-// Writes `first` and then `second` at `addr` through the gate, and flushes. Stops at the first refusal;
-// none comes.
+// Writes `first` and then `second` at `addr` through the gate. Stops at the first refusal; none comes.
+fn write_both(
+    state: State,
+    image: &[u8],
+    log: &mut [u8],
+    sheet: &[u8],
+    work: &mut [u8],
+    addr: usize,
+    first: u8,
+    second: u8,
+) -> Stepped
+    requires { ⌜ Under (desk (now image) state (now log)) (now sheet) (now work) addr first second ⌝ }
+    ensures { λ r. ⌜ WritesBoth (desk (now (image .entry)) state (now (log .entry))) addr first second (r .answer)
+        (desk (now (image .entry)) (r .state) (now (log .exit))) (now (work .exit)) ⌝ }
+{
+    let once = gate(state, image, log, sheet, work, addr, &[first]);
+    let verdict = once.verdict;
+    let next = once.state;
+    let Verdict::Admitted(_) = verdict else {
+        return Stepped {
+            answer: stopped(verdict),
+            state: next,
+        };
+    };
+    let twice = gate(next, image, log, sheet, work, addr, &[second]);
+    let verdict = twice.verdict;
+    let state = twice.state;
+    Stepped {
+        answer: stopped(verdict),
+        state,
+    }
+}
+
+// Flushes what was written.
+fn settle(state: State, image: &mut [u8], log: &[u8]) -> Stepped
+    ensures { λ r. ⌜ Settles (desk (now (image .entry)) state (now (log .entry))) (r .answer)
+        (desk (now (image .exit)) (r .state) (now (log .entry))) ⌝ }
+{
+    let flushed = flush(state, image, log);
+    let answer = flushed.answer;
+    let next = flushed.state;
+    Stepped {
+        answer: settled(answer),
+        state: next,
+    }
+}
+
+// Writes both, and flushes.
 pub fn pair(
     state: State,
     image: &mut [u8],
@@ -54,56 +100,10 @@ pub fn pair(
     ensures { λ r. ⌜ Goes (desk (now (image .entry)) state (now (log .entry))) addr first second (r .answer)
         (desk (now (image .exit)) (r .state) (now (log .exit))) (now (work .exit)) ⌝ }
 {
-    let once = gate(state, image, log, sheet, work, addr, &[first]);
-    let verdict = once.verdict;
-    let next = once.state;
-    let Verdict::Admitted(_) = verdict else {
-        return Stepped {
-            answer: stopped(verdict),
-            state: next,
-        };
-    };
-    let twice = gate(next, image, log, sheet, work, addr, &[second]);
-    let verdict = twice.verdict;
-    let next = twice.state;
-    let Verdict::Admitted(_) = verdict else {
-        return Stepped {
-            answer: stopped(verdict),
-            state: next,
-        };
-    };
-    let flushed = flush(next, image, log);
-    let answer = flushed.answer;
-    let state = flushed.state;
-    Stepped {
-        answer: settled(answer),
-        state,
-    }
-}
-
-// One round: val0, val1, and back.
-pub fn round(
-    state: State,
-    image: &mut [u8],
-    log: &mut [u8],
-    sheet: &[u8],
-    work: &mut [u8],
-    addr: usize,
-    val0: u8,
-    val1: u8,
-) -> Stepped
-    requires { ⌜ Under (desk (now image) state (now log)) (now sheet) (now work) addr val0 val1 ⌝ }
-    ensures { λ r. ⌜ Goes (desk (now (image .entry)) state (now (log .entry))) addr val1 val0 (r .answer)
-        (desk (now (image .exit)) (r .state) (now (log .exit))) (now (work .exit)) ⌝ }
-{
-    let there = pair(state, image, log, sheet, work, addr, val0, val1);
-    let answer = there.answer;
-    let next = there.state;
+    let written = write_both(state, image, log, sheet, work, addr, first, second);
+    let answer = written.answer;
     let RunAnswer::Done = answer else {
-        return Stepped {
-            answer,
-            state: next,
-        };
+        return written;
     };
-    pair(next, image, log, sheet, work, addr, val1, val0)
+    settle(written.state, image, log)
 }

@@ -22,8 +22,8 @@ start c = c .before .before .before .before .before .before
 abbrev tested : tie.After-app-sheet → tie.After-enum-told
 tested c = c .before
 
-abbrev with-sheet : tie.After-open → tie.After-app-sheet
-with-sheet c = c .before .before .before .before .before
+abbrev with-sheet : tie.After-opening → tie.After-app-sheet
+with-sheet c = c .before .before .before .before
 
 -- what the tests told, and what the sheet says
 fit-here : (c : tie.After-enum-told) → let a = start c .args in
@@ -56,22 +56,22 @@ broken : tie.Need-returns-2
 broken c =
     let opening = c .before .before .before in
     let sheet = with-sheet opening in
-    opening-refused _ _ _ _ _ _ _ (fit-here (tested sheet)) (formed-here sheet) (says-here sheet) (opening .«open» .ensures) (c .before .answer .given .1)
+    opening-refused _ _ _ _ _ _ _ (fit-here (tested sheet)) (formed-here sheet) (says-here sheet) (opening .opening .ensures) (c .before .answer .given .1)
 
 opened : tie.Need-repeat-requires
 opened c κs =
-    let done = c .before .before .before .before .before in
+    let done = c .before .before .before .before in
     let opening = done .before .before in
     let sheet = with-sheet opening in
-    opening-good _ _ _ _ _ _ _ (fit-here (tested sheet)) (formed-here sheet) (says-here sheet) (opening .«open» .ensures) (done .enum-told2 .given .1)
+    opening-good _ _ _ _ _ _ _ (fit-here (tested sheet)) (formed-here sheet) (says-here sheet) (opening .opening .ensures) (done .enum-told2 .given .1)
 
 repeated : tie.Need-returns-3
 repeated c =
     let rounds = c .before .before .before .before .before .before in
-    let done = rounds .before .before .before .before .before .before in
+    let done = rounds .before .before .before .before .before in
     let opening = done .before .before in
     let sheet = with-sheet opening in
-    run-goes _ _ _ _ _ _ _ (fit-here (tested sheet)) (formed-here sheet) (says-here sheet) (opening .«open» .ensures) (done .enum-told2 .given .1)
+    run-goes _ _ _ _ _ _ _ (fit-here (tested sheet)) (formed-here sheet) (says-here sheet) (opening .opening .ensures) (done .enum-told2 .given .1)
     (rounds .repeat .ensures)
 
 pub run-spec : {M : Type 1} → statement M
@@ -79,7 +79,7 @@ run-spec =
     tie.close
     (tie.spec
     (λ c κs. search needs) (λ c. search needs) unfit
-    (λ c. search needs) (λ c κs. address-here c) (λ c κs. search needs) (λ c. search needs) (λ c κs. search needs)
+    (λ c. search needs) (λ c κs. address-here c) (λ c. search needs) (λ c κs. search needs)
     (λ c. search needs) (λ c. search needs) (λ c. search needs) broken
     (λ c. search needs) (λ c. search needs) opened
     (λ c. search needs) (λ c. search needs) (λ c. search needs) repeated)
