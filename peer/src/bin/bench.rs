@@ -1,5 +1,5 @@
 //! Times the proved library's C functions beside `quick.rs`, in one run, and prints a
-//! Markdown table: nanoseconds for a call of each, and the library's over Rust's.
+//! Markdown table: the time for a call of each, and the library's over Rust's.
 //!
 //!     bench [--runs N]
 //!
@@ -85,35 +85,48 @@ fn verdicts(all: &mut Vec<Timed>, length: usize) {
     }
 }
 
-/// A full log of 32 writes of 32 bytes, all crossing chunk edges.
-fn full_log(call: Call) -> Case {
-    let writes: Vec<(usize, Vec<u8>)> =
-        (0..32).map(|index| (index * 120 + 5, vec![index as u8 + 1; 32])).collect();
-    outstanding(call, 4096, &writes)
+/// The log's calls and those by tape over one log.
+fn log_calls(all: &mut Vec<Timed>, what: &str, length: usize, writes: &[(usize, Vec<u8>)]) {
+    let bytes = length.div_ceil(64);
+    let filling = if length % 64 == 0 { 0xFF } else { !(0xFF >> length.div_ceil(8)) };
+    let rows = |bits: u8| vec![bits & filling; writes.len() * bytes];
+    let tape = |header: u8, bits: u8| [vec![header], rows(bits)].concat();
+    let mut add =
+        |name: &str, case: Case| all.push(Timed { what: format!("{name}, {what}"), case });
+    let mut read = outstanding(Call::Read, length, writes);
+    (read.addr, read.len) = (1, length as u64 / 2);
+    add("read", read);
+    add("flush", outstanding(Call::Flush, length, writes));
+    for (kept, bits) in [("none", 0x00), ("every other", 0xAA), ("all", 0xFF)] {
+        let mut cut = outstanding(Call::Cut, length, writes);
+        cut.rows = rows(bits);
+        add(&format!("cut, {kept} kept"), cut);
+    }
+    let mut tape_flush = outstanding(Call::TapeFlush, length, writes);
+    tape_flush.tape = tape(0x80, 0xAA);
+    add("tape flush", tape_flush);
+    let mut tape_cut = outstanding(Call::TapeCut, length, writes);
+    tape_cut.tape = tape(0x00, 0xAA);
+    add("tape cut", tape_cut);
 }
 
+/// A full log of 32 writes of 32 bytes, all crossing chunk edges, and a desk's small table.
 fn region_calls(all: &mut Vec<Timed>) {
-    let mut read = full_log(Call::Read);
-    read.addr = 100;
-    read.len = 64;
-    all.push(Timed { what: "read, 32 writes of 32 bytes".to_string(), case: read });
-    all.push(Timed {
-        what: "flush, 32 writes of 32 bytes".to_string(),
-        case: full_log(Call::Flush),
-    });
-    for (name, bits) in [("none", 0x00), ("every other", 0xAA), ("all", 0xFF)] {
-        let mut cut = full_log(Call::Cut);
-        cut.rows = vec![bits; 32 * 64];
-        all.push(Timed { what: format!("cut, 32 writes of 32 bytes, {name} kept"), case: cut });
-    }
+    let full: Vec<(usize, Vec<u8>)> =
+        (0..32).map(|index| (index * 120 + 5, vec![index as u8 + 1; 32])).collect();
+    log_calls(all, "32 writes of 32 bytes", 4096, &full);
+    log_calls(all, "2 writes of 4 bytes", 16, &[(5, vec![1; 4]), (11, vec![2; 4])]);
     let mut open = outstanding(Call::Open, 4096, &[]);
     let clauses = |count: usize| (0..count).map(|place| is(60 * place, 0, 9)).collect();
     open.sheet = write_sheet(&Rule::All(vec![Rule::All(clauses(63)), Rule::All(clauses(56))]));
     all.push(Timed { what: "open, 119 clauses".to_string(), case: open });
-    let mut by_tape = full_log(Call::TapeCut);
-    by_tape.tape = vec![0xAA; 1 + 32 * 64];
-    by_tape.tape[0] = 0x00;
-    all.push(Timed { what: "tape cut, 32 writes of 32 bytes".to_string(), case: by_tape });
+    let mut gate = outstanding(Call::Gate, 16, &[(5, vec![1; 4])]);
+    gate.sheet = write_sheet(&is(7, 0, 9));
+    (gate.addr, gate.data) = (11, vec![2; 4]);
+    all.push(Timed {
+        what: "gate, 2 writes of 4 bytes, admitted, one clause".to_string(),
+        case: gate,
+    });
 }
 
 unsafe extern "C" {
@@ -138,6 +151,15 @@ fn time(desk: &dyn Desk, case: &Case, times: u64) -> f64 {
         black_box(black_box(&mut lent).put_to(desk));
     }
     (processor_time() - began).as_nanos() as f64 / times as f64
+}
+
+/// Nanoseconds as microseconds or milliseconds.
+fn shown(nanoseconds: f64) -> String {
+    if nanoseconds < 100_000.0 {
+        format!("{:.3} µs", nanoseconds / 1e3)
+    } else {
+        format!("{:.2} ms", nanoseconds / 1e6)
+    }
 }
 
 fn median(mut figures: Vec<f64>) -> f64 {
@@ -168,7 +190,7 @@ fn main() -> ExitCode {
     }
     region_calls(&mut all);
     let library = Linked { null_for_empty: false };
-    println!("Median of {runs} runs, nanoseconds of processor time for a call.\n");
+    println!("Median of {runs} runs, processor time for a call.\n");
     println!("| call | L | library | Rust | library / Rust |");
     println!("|---|---:|---:|---:|---:|");
     for Timed { what, case } in all {
@@ -187,8 +209,10 @@ fn main() -> ExitCode {
         }
         let (of_library, of_rust) = (median(of_library), median(of_rust));
         println!(
-            "| {what} | {} | {of_library:.0} | {of_rust:.0} | {:.2} |",
+            "| {what} | {} | {} | {} | {:.2} |",
             case.image.len(),
+            shown(of_library),
+            shown(of_rust),
             of_library / of_rust
         );
     }
