@@ -26,7 +26,7 @@ use Rattle.rounds.specs.declared.RunAnswer.the-variants.{Done}
 use Rattle.rounds.proofs.ByteLog.{byte-write}
 use Rattle.example.proofs.NumberLaws.{Fit, run-0-fits, opening-decides}
 use Rattle.rounds.proofs.SheetLaws.{app-sheet-formed, sheet-says-valid}
-use Rattle.rounds.proofs.StepLaws.{once-admissible, once, twice-admissible, twice, logged-both, pair-goes, first-value, second-value}
+use Rattle.rounds.proofs.StepLaws.{once-admissible, once, twice-admissible, twice, both-written, logged-both, pair-goes, first-value, second-value}
 use Rattle.rounds.proofs.StepLaws.{under-after, under-turned, goes-on}
 use Rattle.example.proofs.RepeatLaws.{repeats-none, repeats-more}
 use Rattle.session.specs.History.{History, opening, _then_, written, flushed}
@@ -62,7 +62,8 @@ module _ (sheet opened-image : List ℕ) where
         let fits₂ = twice-admissible u there₁ in
         let g₂ = admitting (fits₂ .0) (fits₂ .1) in
         let f = flushes-done (facts-sound _ _ _ (logged-both u .facts)) refl in
-        record { now = _; work-now = _; goes = pair-goes u (twice u there₁ g₂) f refl; run = r and gate g₁ and gate g₂ and flush f }
+        let both = both-written u (twice u there₁ g₂) {told = Done} refl in
+        record { now = _; work-now = _; goes = pair-goes u both (record { answers = f .answers; leaves = f .leaves }); run = r and gate g₁ and gate g₂ and flush f }
 
   round-goes-on : {d : Desk} {work : List ℕ} {addr a b : ℕ} → Under d sheet work addr a b → {h : History} → Run sheet opened-image h d
       → Went (round-of addr a b h) d addr b a
