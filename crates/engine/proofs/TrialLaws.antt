@@ -4,7 +4,6 @@ use Prim.Native.Nat.{ℕ, _+_, _-_, _/_, _^_, _<_}
 use native.Mathlib.Omega.{arith}
 use mathlib.Core.Path.{_≡_, sym, ap, subst⁻¹, _∙_}
 use mathlib.Core.List.{List}
-use lib.Dec.{lit<}
 use lib.ListN.{length, take, drop}
 use Rattle.pieces.specs.AsyncSpec.{Write, size-to-chunks, apply-write-selective, flush-writes-selective, write, write-of}
 use Rattle.pieces.specs.Choice.{touched, row-of, rows-of}

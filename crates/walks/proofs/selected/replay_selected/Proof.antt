@@ -1,6 +1,5 @@
 -- `walks::selected::replay_selected` leaves what a cut by the rows leaves: its records' words say the log, and what was lent comes back. Assumes nothing.
 use Prim.Native.Nat.{ℕ}
-use native.Mathlib.Omega.{arith}
 use mathlib.Core.Path.{sym, ap, subst⁻¹, _∙_}
 use mathlib.Core.List.{List}
 use lib.ListN.{length}

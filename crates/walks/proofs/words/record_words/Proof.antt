@@ -1,7 +1,7 @@
 -- `record_words` meets its contract. Invariant: the words of the first i records are there. Assumes nothing.
-use Prim.Native.Nat.{ℕ, _+_, _*_, _-_, _≤_}
+use Prim.Native.Nat.{_+_, _*_, _-_, _≤_}
 use native.Mathlib.Omega.{arith}
-use mathlib.Core.Path.{_≡_, refl, sym, ap, _∙_}
+use mathlib.Core.Path.{_≡_, refl, sym, _∙_}
 use lib.ListN.{length, getD, take, set, length-set, length-map}
 use Rattle.region.specs.Limits.{writes-limit}
 use Rattle.records.specs.Record.{no-record}
