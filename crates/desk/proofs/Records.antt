@@ -8,11 +8,11 @@ use mathlib.Core.List.{List, [], _∷_}
 use lib.Dec.{leb}
 use lib.ListN.{length, getD, take, drop, length-take, drop-of-length-le}
 use lib.Seq.{drop-cons, getD-take, length-take-le}
-use Rattle.desk.specs.State.{log-records, together, records-inside, writes-of, recorded-write, no-record}
+use Rattle.desk.specs.State.{log-records, together, records-inside, no-record}
 use Rattle.records.specs.declared.Record.{Record}
 use Rattle.desk.specs.declared.state.State.{State}
 
-pub records-more : (st : State) (i : ℕ) → i < st .count → st .count ≤ length (st .records)
+records-more : (st : State) (i : ℕ) → i < st .count → st .count ≤ length (st .records)
     → drop i (log-records st) ≡ getD (st .records) i no-record ∷ drop (suc i) (log-records st)
 records-more st i h l =
     drop-cons (log-records st) i no-record (subst⁻¹ (λ (n : ℕ). i < n) (length-take-le (st .count) (st .records) l) h)
@@ -41,8 +41,3 @@ module _ (st : State) (i : ℕ) (h : i < st .count) (l : st .count ≤ length (s
   pub inside-more : (L : ℕ) → records-inside L (drop i (log-records st)) ≡ (leb (next st i .addr + next st i .len) L && records-inside L (rest st i))
   unfolding records-inside
   inside-more L = ap (records-inside L) next-and-rest
-
-  pub writes-more : (log : List ℕ)
-      → writes-of (drop i (log-records st)) log ≡ recorded-write (next st i) (take (next st i .len) log) ∷ writes-of (rest st i) (drop (next st i .len) log)
-  unfolding writes-of
-  writes-more log = ap (λ (rs : List Record). writes-of rs log) next-and-rest

@@ -36,14 +36,15 @@ fn chosen_from(
     if left == 0 {
         return;
     }
-    let place = RECORD_WORDS * next;
-    let addr = words[place];
-    let len = words[place + 1];
+    let fewer = left - 1;
+    let word = RECORD_WORDS * next;
+    let addr = words[word];
+    let len = words[word + 1];
     let end = at + len;
     let buffer = *log;
     lay_chosen(*work, addr, &buffer[at..end], m);
     let above = m >> touched(addr, len);
-    chosen_from(words, log, work, next + 1, left - 1, end, above);
+    chosen_from(words, log, work, next + 1, fewer, end, above);
 }
 
 // All of them. The working image goes back as it came: the step is lent a local that holds it.

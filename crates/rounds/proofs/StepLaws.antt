@@ -30,7 +30,7 @@ use Rattle.gate.specs.declared.Verdict.the-variants.{Admitted}
 use Rattle.gate.proofs.JudgementLaws.{admitted-number}
 use Rattle.gate.proofs.Meaning.{gate-means}
 use Rattle.rounds.specs.Valid.{one-of, app-valid}
-use Rattle.rounds.specs.Steps.{Under, WritesBoth, Settles, Goes}
+use Rattle.rounds.specs.Steps.{Under, WritesBoth, EndsPair, Goes}
 use Rattle.rounds.specs.Answer.{run-answer-number}
 use Rattle.rounds.specs.declared.RunAnswer.{RunAnswer}
 use Rattle.rounds.specs.declared.RunAnswer.the-variants.{Done}
@@ -202,13 +202,13 @@ module _ {d : Desk} {sheet work : List ℕ} {addr a b : ℕ} (u : Under d sheet 
       }
 
   pub pair-goes : {first : RunAnswer} {d₂ : Desk} {work₂ : List ℕ} → WritesBoth d addr a b first d₂ work₂
-      → {told : RunAnswer} {d′ : Desk} → Settles d₂ told d′ → Goes d addr a b told d′ work₂
+      → {told : RunAnswer} {d′ : Desk} → EndsPair d₂ told d′ → Goes d addr a b told d′ work₂
   pair-goes g₂ {told} {d′} f =
-      let settles : Settles with-both told d′ = rw (g₂ .leaves) at f in
+      let ends : EndsPair with-both told d′ = rw (g₂ .leaves) at f in
       let none = flush-sound with-both (facts-sound _ _ _ (logged-both .facts)) in
-      let left = changed with-both (settles .leaves) none in
+      let left = changed with-both (ends .leaves) none in
       record {
-        answers = run-answers-by-number told Done (settles .answers ∙ none);
+        answers = run-answers-by-number told Done (ends .answers ∙ none);
         idle = rw left (record { sized = logged-both .sized; empty = refl });
         image-after = ap (λ (x : Desk). x .image) left ∙ ap readable (logged-both .seen) ∙ last-read addr b (a ∷ []) (d .image) here;
         log-after = ap (λ (x : Desk). x .log) left

@@ -36,7 +36,7 @@ pub record WritesBoth (d : Desk) (addr first second : ℕ) (answer : RunAnswer) 
   pub work-after : work′ ≡ set (d .image) addr second
 
 -- a flush, as a step of a run
-pub record Settles (d : Desk) (answer : RunAnswer) (d′ : Desk) : Type 0 where
+pub record EndsPair (d : Desk) (answer : RunAnswer) (d′ : Desk) : Type 0 where
   pub answers : run-answer-number answer ≡ flush-number d
   pub leaves : d′ ≡ if-done (flush-number d) (settled-desk d (readable (view d))) d
 

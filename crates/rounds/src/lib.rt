@@ -1,5 +1,5 @@
-// A round of the example application of power_sound_t.rs: its sheet, and two pairs of writes through
-// the gate under it, each pair flushed. Proved: what each leaves, and that no call refuses. Assumed:
+// What a round of the example application of power_sound_t.rs is made of: its sheet, and a pair of
+// writes through the gate under it, flushed. Proved: what each leaves, and that no call refuses. Assumed:
 // nothing.
 use region::Refusal;
 

@@ -10,7 +10,7 @@ ghost use Rattle.region.specs.Answer.{answer-number};
 ghost use Rattle.desk.specs.Desk.{desk};
 ghost use Rattle.gate.specs.Judgement.{verdict-report};
 ghost use Rattle.rounds.specs.Answer.{run-answer-number};
-ghost use Rattle.rounds.specs.Steps.{Under, WritesBoth, Settles, Goes};
+ghost use Rattle.rounds.specs.Steps.{Under, WritesBoth, EndsPair, Goes};
 
 pub struct Stepped {
     pub state: State,
@@ -72,8 +72,8 @@ fn write_both(
 }
 
 // Flushes what was written.
-fn settle(state: State, image: &mut [u8], log: &[u8]) -> Stepped
-    ensures { λ r. ⌜ Settles (desk (now (image .entry)) state (now (log .entry))) (r .answer)
+fn end_pair(state: State, image: &mut [u8], log: &[u8]) -> Stepped
+    ensures { λ r. ⌜ EndsPair (desk (now (image .entry)) state (now (log .entry))) (r .answer)
         (desk (now (image .exit)) (r .state) (now (log .entry))) ⌝ }
 {
     let flushed = flush(state, image, log);
@@ -105,5 +105,5 @@ pub fn pair(
     let RunAnswer::Done = answer else {
         return written;
     };
-    settle(written.state, image, log)
+    end_pair(written.state, image, log)
 }

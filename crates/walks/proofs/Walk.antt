@@ -38,8 +38,8 @@ first-and-rest : (rs : List Record) (next left : ℕ) → next < length rs → t
 first-and-rest rs next left h = ap (take (suc left)) (drop-cons rs next no-record h) ∙ ap (λ (k : ℕ). getD rs next no-record ∷ take left (drop k rs)) (sym (add-one next))
 
 module _ (words : List ℕ) (sized : length words ≡ 2 * writes-limit) where
-  pub records-more : (next left : ℕ) → next < writes-limit → 0 < left → records-left words next left ≡ record-here words next ∷ records-left words (next + 1) (left - 1)
-  records-more next left h some =
+  pub left-more : (next left : ℕ) → next < writes-limit → 0 < left → records-left words next left ≡ record-here words next ∷ records-left words (next + 1) (left - 1)
+  left-more next left h some =
       let all : length (records-of words) ≡ writes-limit = length-records writes-limit words sized in
       let more : left ≡ suc (left - 1) = omega arith in
       ap (λ (n : ℕ). take n (drop next (records-of words))) more
@@ -58,7 +58,7 @@ pub step : {L : ℕ} {words : List ℕ} {next left n at : ℕ} → Remaining L w
 unfolding together records-inside
 step {L} {words} {next} {left} {n} {at} remain some =
     let index : next < writes-limit = omega (arith, remain .there) in
-    let records = records-more words (remain .sized) next left index some in
+    let records = left-more words (remain .sized) next left index some in
     let r = record-here words next in
     let sum : together (records-left words next left) ≡ r .len + together (records-left words (next + 1) (left - 1)) = ap together records in
     let in-both = both _ _ (sym (ap (records-inside L) records) ∙ remain .inside) in

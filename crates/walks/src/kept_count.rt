@@ -1,9 +1,8 @@
-// The kept count.
+// The pieces that a cut keeps, counted by the records alone.
 use desk::state::State;
 use pieces::points::touched;
 use pieces::rows::row_bytes;
 use pieces::rows::set_bits;
-use records::Record;
 use region::CHUNK_SIZE;
 use region::chunks::size_to_chunks;
 ghost use mathlib.Core.Path.{_≡_};

@@ -37,9 +37,10 @@ fn selected_from(
     if left == 0 {
         return;
     }
-    let place = RECORD_WORDS * next;
-    let addr = words[place];
-    let len = words[place + 1];
+    let fewer = left - 1;
+    let word = RECORD_WORDS * next;
+    let addr = words[word];
+    let len = words[word + 1];
     let end = at + len;
     let buffer = *log;
     lay_selected(*work, addr, &buffer[at..end], *rows, row);
@@ -50,7 +51,7 @@ fn selected_from(
         width,
         work,
         next + 1,
-        left - 1,
+        fewer,
         end,
         row + width,
     );

@@ -28,13 +28,14 @@ fn whole_from(
     if left == 0 {
         return;
     }
-    let place = RECORD_WORDS * next;
-    let addr = words[place];
-    let len = words[place + 1];
+    let fewer = left - 1;
+    let word = RECORD_WORDS * next;
+    let addr = words[word];
+    let len = words[word + 1];
     let end = at + len;
     let buffer = *log;
     lay(*work, addr, &buffer[at..end]);
-    whole_from(words, log, work, next + 1, left - 1, end);
+    whole_from(words, log, work, next + 1, fewer, end);
 }
 
 // All of them. The working image goes back as it came: the step is lent a local that holds it.

@@ -99,6 +99,7 @@ module _ (t : ℕ) where
 pub +chosen-from-spec : {M : Type 1} → statement M
 +chosen-from-spec = close μ λ t. lts.spec (claims t) (at-measure t) own.Post
     (none-left t)
+    (λ c. some t c)
     (λ c. omega (arith, stepped t c .index))
     (λ c. omega (arith, stepped t c .index))
     (λ c. omega (arith, stepped t c .index))
@@ -114,6 +115,5 @@ pub +chosen-from-spec : {M : Type 1} → statement M
     (λ c κs. omega (arith, stepped t (left-at t c) .lies, left-at t c .before .pre .1 .0 .short))
     (λ c. omega (arith, c .touched .ensures, pointed t (left-at t (laid-at t c))))
     (λ c. omega (arith, stepped t (left-at t (laid-at t (c .before))) .index))
-    (λ c. some t (left-at t (laid-at t (c .before))))
     (rest-remains t)
     (replayed t)

@@ -12,10 +12,10 @@ never-stopped c = done-goes-on (c .before .before .before .before .before .write
 
 flushed : tie.Need-returns-2
 flushed c =
-    let settled = c .before .before in
-    let written = settled .before .before .before .before .before .before .before .before .before in
+    let ended = c .before .before in
+    let written = ended .before .before .before .before .before .before .before .before .before in
     let start = written .before .before .before .before .before .before .before .before in
-    pair-goes (start .pre) (written .write-both .ensures) (settled .settle .ensures)
+    pair-goes (start .pre) (written .write-both .ensures) (ended .end-pair .ensures)
 
 log-length : tie.Need-same-length-5
 log-length c = ap length (flushed c .log-after) ∙ simp length-set

@@ -89,6 +89,7 @@ module _ (t : ℕ) where
 pub +selected-from-spec : {M : Type 1} → statement M
 +selected-from-spec = close μ λ t. lts.spec (claims t) (at-measure t) own.Post
     (none-left t)
+    (λ c. some t c)
     (λ c. omega (arith, stepped t c .index))
     (λ c. omega (arith, stepped t c .index))
     (λ c. omega (arith, stepped t c .index))
@@ -102,7 +103,6 @@ pub +selected-from-spec : {M : Type 1} → statement M
     (λ c. omega (arith, stepped t (c .before .before .before .before) .has))
     (lay-requires t)
     (λ c. omega (arith, stepped t (left-at t (c .before)) .index))
-    (λ c. some t (left-at t (c .before)))
     (λ c. let at = left-at t (c .before) in omega (arith, row-there (at .before .pre .1 .1) (some t at), at .before .pre .1 .1 .counted))
     (rest-remains t)
     (laid t)

@@ -78,6 +78,7 @@ module _ (t : ℕ) where
 pub +whole-from-spec : {M : Type 1} → statement M
 +whole-from-spec = close μ λ t. lts.spec (claims t) (at-measure t) own.Post
     (none-left t)
+    (λ c. some t c)
     (λ c. omega (arith, stepped t c .index))
     (λ c. omega (arith, stepped t c .index))
     (λ c. omega (arith, stepped t c .index))
@@ -91,6 +92,5 @@ pub +whole-from-spec : {M : Type 1} → statement M
     (λ c. omega (arith, stepped t (c .before .before .before .before) .has))
     (lay-requires t)
     (λ c. omega (arith, stepped t (left-at t (c .before)) .index))
-    (λ c. some t (left-at t (c .before)))
     (rest-remains t)
     (laid t)
