@@ -1,10 +1,11 @@
 /*
- * How much stack does each function need? Runs every function of the library, with a full log and the deepest sheet, on
- * a stack of its own that was painted before, and looks how far down the paint is gone. Fails if one needs more than the
- * bound: SKALDRIFT_STACK_BYTES, or the number that is given.
+ * How much stack does each function need? Runs every function of the header, with a full log and the deepest sheets where
+ * it takes them, on a stack of its own that was painted before, and looks how far down the paint is gone. Fails if one
+ * needs more than the bound: SKALDRIFT_STACK_BYTES, or the number that is given. For Linux with glibc's ucontext.
  */
 #define _XOPEN_SOURCE 700
 #include <inttypes.h>
+#include <stdint.h>
 #include <stdio.h>
 #include <stdlib.h>
 #include <string.h>
@@ -22,11 +23,13 @@ static uint64_t state[SKALDRIFT_STATE_WORDS];
 static uint8_t image[L], work[L], log_bytes[LOG], rows[WRITES * ROW], tape[1 + WRITES * ROW], data[LOG];
 static uint64_t start, report;
 
-/* Seven groups of one member about a clause: byte 0 is from 0 to 255, or equals itself. */
-static const uint8_t deep_range[] = {0x18, 0x18, 0x18, 0x18, 0x18, 0x18, 0x18, 0x10, 0x00, 0x00, 0x03, 0xFC};
-static const uint8_t deep_tie[] = {0x18, 0x18, 0x18, 0x18, 0x18, 0x18, 0x18, 0x14, 0x00, 0x00, 0x00, 0x00};
-/* The same about a clause that a byte of 0 breaks: byte 0 is 1. */
-static const uint8_t deep_broken[] = {0x18, 0x18, 0x18, 0x18, 0x18, 0x18, 0x18, 0x10, 0x00, 0x00, 0x04, 0x04};
+/* Seven groups of one member about a clause: byte 0 is from 0 to 255, byte 0 equals itself, byte 0 is 1. */
+static const uint8_t range[] = {0x18, 0x18, 0x18, 0x18, 0x18, 0x18, 0x18, 0x10, 0x00, 0x00, 0x03, 0xFC};
+static const uint8_t tie[] = {0x18, 0x18, 0x18, 0x18, 0x18, 0x18, 0x18, 0x14, 0x00, 0x00, 0x00, 0x00};
+static const uint8_t broken[] = {0x18, 0x18, 0x18, 0x18, 0x18, 0x18, 0x18, 0x10, 0x00, 0x00, 0x04, 0x04};
+/* The same about a group of none, and about a group of one clause, which is too deep. */
+static const uint8_t none[] = {0x18, 0x18, 0x18, 0x18, 0x18, 0x18, 0x18, 0x18, 0x00};
+static const uint8_t too_deep[] = {0x18, 0x18, 0x18, 0x18, 0x18, 0x18, 0x18, 0x18, 0x10, 0x00, 0x00, 0x03, 0xFC};
 
 #define OF(buffer) buffer, sizeof buffer
 #define STATE state, SKALDRIFT_STATE_WORDS
@@ -50,9 +53,22 @@ static void sixteen_points(void)
     }
 }
 
+enum Memory { EMPTY, ONE_SHORT, FULL, POINTS };
+
+static const struct Case {
+    const char *name;
+    uint64_t (*call)(void);
+    uint64_t answer;
+    enum Memory memory;
+    uint8_t header;
+    const uint8_t *sheet;
+    size_t sheet_len;
+} *now;
+
+#define SHEET now->sheet, now->sheet_len
+
 static uint64_t call_state_words(void) { return skaldrift_state_words() - SKALDRIFT_STATE_WORDS; }
-static uint64_t call_open_range(void) { return skaldrift_open(STATE, OF(image), OF(log_bytes), OF(deep_range)); }
-static uint64_t call_open_tie(void) { return skaldrift_open(STATE, OF(image), OF(log_bytes), OF(deep_tie)); }
+static uint64_t call_open(void) { return skaldrift_open(STATE, OF(image), OF(log_bytes), SHEET); }
 
 static uint64_t call_write(void)
 {
@@ -65,17 +81,12 @@ static uint64_t call_cut(void) { return skaldrift_cut(STATE, OF(image), OF(log_b
 
 static uint64_t call_judge(void)
 {
-    return skaldrift_judge(STATE, OF(image), OF(log_bytes), OF(deep_tie), OF(work), 0, data, 1, &report);
+    return skaldrift_judge(STATE, OF(image), OF(log_bytes), SHEET, OF(work), 0, data, 1, &report);
 }
 
 static uint64_t call_gate(void)
 {
-    return skaldrift_gate(STATE, OF(image), OF(log_bytes), OF(deep_range), OF(work), 0, data, 1, &report);
-}
-
-static uint64_t call_gate_denied(void)
-{
-    return skaldrift_gate(STATE, OF(image), OF(log_bytes), OF(deep_broken), OF(work), 0, data, 1, &report);
+    return skaldrift_gate(STATE, OF(image), OF(log_bytes), SHEET, OF(work), 0, data, 1, &report);
 }
 
 static uint64_t call_tape_write(void)
@@ -96,44 +107,43 @@ static uint64_t call_tape_cut(void)
 static uint64_t call_setup(void) { return skaldrift_setup(OF(image), L - 1, 0); }
 static uint64_t call_run(void) { return skaldrift_run(OF(image), OF(log_bytes), OF(work), L - 1, 0, 1, 2); }
 
-enum Memory { EMPTY, ONE_SHORT, FULL, POINTS };
+#define CUT SKALDRIFT_CUT_HEADER
+#define FLUSH SKALDRIFT_FLUSH_HEADER
 
-static const struct Case {
-    const char *name;
-    uint64_t (*call)(void);
-    uint64_t answer;
-    enum Memory memory;
-    uint8_t header;
-} cases[] = {
-    {"skaldrift_state_words", call_state_words, SKALDRIFT_DONE, EMPTY, SKALDRIFT_CUT_HEADER},
-    {"skaldrift_open, a range", call_open_range, SKALDRIFT_DONE, FULL, SKALDRIFT_CUT_HEADER},
-    {"skaldrift_open, a tie", call_open_tie, SKALDRIFT_DONE, FULL, SKALDRIFT_CUT_HEADER},
-    {"skaldrift_write", call_write, SKALDRIFT_DONE, ONE_SHORT, SKALDRIFT_CUT_HEADER},
-    {"skaldrift_read", call_read, SKALDRIFT_DONE, FULL, SKALDRIFT_CUT_HEADER},
-    {"skaldrift_flush", call_flush, SKALDRIFT_DONE, FULL, SKALDRIFT_CUT_HEADER},
-    {"skaldrift_cut", call_cut, SKALDRIFT_DONE, FULL, SKALDRIFT_CUT_HEADER},
-    {"skaldrift_judge, admitted", call_judge, SKALDRIFT_DONE, POINTS, SKALDRIFT_CUT_HEADER},
-    {"skaldrift_gate, admitted", call_gate, SKALDRIFT_DONE, POINTS, SKALDRIFT_CUT_HEADER},
-    {"skaldrift_gate, denied", call_gate_denied, SKALDRIFT_DENIED, POINTS, SKALDRIFT_CUT_HEADER},
-    {"skaldrift_tape_write, flush", call_tape_write, SKALDRIFT_DONE, ONE_SHORT, SKALDRIFT_FLUSH_HEADER},
-    {"skaldrift_tape_write, cut", call_tape_write, SKALDRIFT_DONE, ONE_SHORT, SKALDRIFT_CUT_HEADER},
-    {"skaldrift_tape_flush", call_tape_flush, SKALDRIFT_DONE, FULL, SKALDRIFT_FLUSH_HEADER},
-    {"skaldrift_tape_cut", call_tape_cut, SKALDRIFT_DONE, FULL, SKALDRIFT_CUT_HEADER},
-    {"skaldrift_setup", call_setup, SKALDRIFT_DONE, EMPTY, SKALDRIFT_CUT_HEADER},
-    {"skaldrift_run", call_run, SKALDRIFT_DONE, EMPTY, SKALDRIFT_CUT_HEADER},
+static const struct Case cases[] = {
+    {"skaldrift_state_words", call_state_words, 0, EMPTY, CUT, NULL, 0},
+    {"skaldrift_open, a range", call_open, SKALDRIFT_DONE, FULL, CUT, OF(range)},
+    {"skaldrift_open, a tie", call_open, SKALDRIFT_DONE, FULL, CUT, OF(tie)},
+    {"skaldrift_open, an empty group", call_open, SKALDRIFT_DONE, FULL, CUT, OF(none)},
+    {"skaldrift_open, too deep", call_open, SKALDRIFT_BAD_SHEET, FULL, CUT, OF(too_deep)},
+    {"skaldrift_write", call_write, SKALDRIFT_DONE, ONE_SHORT, CUT, NULL, 0},
+    {"skaldrift_read", call_read, SKALDRIFT_DONE, FULL, CUT, NULL, 0},
+    {"skaldrift_flush", call_flush, SKALDRIFT_DONE, FULL, CUT, NULL, 0},
+    {"skaldrift_cut", call_cut, SKALDRIFT_DONE, FULL, CUT, NULL, 0},
+    {"skaldrift_judge, admitted", call_judge, SKALDRIFT_DONE, POINTS, CUT, OF(none)},
+    {"skaldrift_judge, denied", call_judge, SKALDRIFT_DENIED, POINTS, CUT, OF(broken)},
+    {"skaldrift_gate, admitted", call_gate, SKALDRIFT_DONE, POINTS, CUT, OF(range)},
+    {"skaldrift_gate, an empty group", call_gate, SKALDRIFT_DONE, POINTS, CUT, OF(none)},
+    {"skaldrift_gate, denied", call_gate, SKALDRIFT_DENIED, POINTS, CUT, OF(broken)},
+    {"skaldrift_gate, too deep", call_gate, SKALDRIFT_BAD_SHEET, POINTS, CUT, OF(too_deep)},
+    {"skaldrift_tape_write, flush", call_tape_write, SKALDRIFT_DONE, ONE_SHORT, FLUSH, NULL, 0},
+    {"skaldrift_tape_write, cut", call_tape_write, SKALDRIFT_DONE, ONE_SHORT, CUT, NULL, 0},
+    {"skaldrift_tape_flush", call_tape_flush, SKALDRIFT_DONE, FULL, FLUSH, NULL, 0},
+    {"skaldrift_tape_cut", call_tape_cut, SKALDRIFT_DONE, FULL, CUT, NULL, 0},
+    {"skaldrift_setup", call_setup, SKALDRIFT_DONE, EMPTY, CUT, NULL, 0},
+    {"skaldrift_run", call_run, SKALDRIFT_DONE, EMPTY, CUT, NULL, 0},
 };
 
 static uint64_t stack[STACK_WORDS];
 static ucontext_t back, aside;
-static const struct Case *now;
 static uint64_t answered;
-static const char *top;
+static uintptr_t top;
 
 /* What stands below here is the call's. */
 static void on_the_stack(void)
 {
     char here;
-    top = &here;
+    top = (uintptr_t)&here;
     answered = now->call();
 }
 
@@ -183,21 +193,34 @@ static size_t needed(const struct Case *c)
     while (low < STACK_WORDS && stack[low] == PAINT) {
         low++;
     }
-    return (size_t)(top - (const char *)&stack[low]);
+    if (low == 0) {
+        fprintf(stderr, "stack: %s needs more than the %zu bytes that are watched\n", c->name, sizeof stack);
+        exit(2);
+    }
+    return top - (uintptr_t)&stack[low];
+}
+
+/* The bound that was asked for, or 0 if it is no number of bytes that can be watched. */
+static size_t bound_of(const char *word)
+{
+    size_t bound = 0;
+    for (; *word >= '0' && *word <= '9' && bound <= sizeof stack; word++) {
+        bound = 10 * bound + (size_t)(*word - '0');
+    }
+    return *word == '\0' && bound < sizeof stack ? bound : 0;
 }
 
 int main(int count, char **words)
 {
-    char *end = "";
-    size_t bound = count > 1 ? strtoull(words[1], &end, 10) : SKALDRIFT_STACK_BYTES;
-    if (*end != '\0' || bound == 0) {
-        fprintf(stderr, "stack: '%s' is no number of bytes\n", words[1]);
+    size_t bound = count == 1 ? SKALDRIFT_STACK_BYTES : count == 2 ? bound_of(words[1]) : 0;
+    if (bound == 0) {
+        fprintf(stderr, "usage: stack [BYTES], below %zu\n", sizeof stack);
         return 2;
     }
     int over = 0;
     for (size_t i = 0; i < sizeof cases / sizeof cases[0]; i++) {
         size_t bytes = needed(&cases[i]);
-        printf("%-28s %5zu bytes of stack%s\n", cases[i].name, bytes, bytes > bound ? "  OVER" : "");
+        printf("%-31s %5zu bytes of stack%s\n", cases[i].name, bytes, bytes > bound ? "  OVER" : "");
         over += bytes > bound;
     }
     printf("stack: the bound is %zu bytes; %d of %zu calls need more\n", bound, over, sizeof cases / sizeof cases[0]);

@@ -15,8 +15,8 @@
  *     no buffer that a call may change overlaps another buffer of the same call.
  *
  *     The stack that a call runs on has SKALDRIFT_STACK_BYTES left. This is measured, not proved: `./stack` runs each
- *     function with a full log and the deepest sheet, on this archive, and fails if one needs more. Where memcpy and
- *     memset are bound lazily, the dynamic linker takes some 3 KB more in the first call: bind at start (-z now).
+ *     function of this archive, with a full log and the deepest sheets, and fails if one needs more. Bind memcpy and
+ *     memset at start (-z now): bound lazily, the first call took 2,584 bytes of the dynamic linker's more.
  *
  * A buffer that a call may change is one without `const`. A null pointer is fine where the length is 0; `report` and
  * `start` are never null. The library keeps nothing between calls, so threads need a lock only for a buffer that one of

@@ -87,9 +87,14 @@ fn verdicts(all: &mut Vec<Timed>, length: usize) {
 
 /// The log's calls and those by tape over one log.
 fn log_calls(all: &mut Vec<Timed>, what: &str, length: usize, writes: &[(usize, Vec<u8>)]) {
-    let bytes = length.div_ceil(64);
-    let filling = if length % 64 == 0 { 0xFF } else { !(0xFF >> length.div_ceil(8)) };
-    let rows = |bits: u8| vec![bits & filling; writes.len() * bytes];
+    let row = |bits: u8| {
+        let mut row = vec![bits; length.div_ceil(64)];
+        if let (Some(last), used @ 1..) = (row.last_mut(), length.div_ceil(8) % 8) {
+            *last &= !(0xFF >> used);
+        }
+        row
+    };
+    let rows = |bits: u8| row(bits).repeat(writes.len());
     let tape = |header: u8, bits: u8| [vec![header], rows(bits)].concat();
     let mut add =
         |name: &str, case: Case| all.push(Timed { what: format!("{name}, {what}"), case });
