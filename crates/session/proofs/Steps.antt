@@ -161,5 +161,6 @@ step-keeps h (run.cut {answer = a} p) = cut-keeps h a p
 step-keeps h (run.tape-cut {answer = a} p) = tape-cut-keeps h a p
 step-keeps h (run.reopen {answer = a} p) = open-keeps h a p
 step-keeps h (run.restart same p) = reopened-keeps h same p
+step-keeps h (run.refused-opening p) = stays h
 step-keeps h (run.fill p) = stays h
 step-keeps h (run.read p) = stays h

@@ -1,47 +1,79 @@
--- Demand 3 by tape. Along a run by tape the view and the epoch's start are those that the events and the tape tell: a write goes to the end of both
--- logs, and both endings leave the image that the tape predicts. So is the predicted image, which every accepted call fills and no other touches.
--- Assumes nothing.
+-- Demand 3 by tape. A run by tape is a run, so its view is the replay of its history. The calls' promises predict by the header and the rows, and that
+-- is what the replay gives if the epoch ends as the header says. Assumes nothing.
 use Prim.Native.Nat.{ℕ, _+_}
-use mathlib.Core.Path.{_≡_, refl, sym, ap, ap₂, _∙_}
-use mathlib.Core.Bool.{true, true≢false}
-use mathlib.Core.List.{List}
-use lib.ListN.{take}
+use native.Mathlib.Nat.{suc-ne-zero}
+use native.Mathlib.Omega.{arith}
+use mathlib.Core.Path.{_≡_, refl, sym, ap, ap₂, subst, _∙_}
+use mathlib.Core.Bool.{Bool, true, false, cond}
+use mathlib.Core.List.{List, [], _∷_, _++_}
+use lib.ListN.{length, getD}
 use Rattle.region.specs.declared.Answer.{Answer}
 use Rattle.region.specs.declared.Answer.the-variants as answer
 use Rattle.region.proofs.AnswerLaws.{refusal-not-done, left}
-use Rattle.pieces.specs.AsyncSpec.{Write, AsyncView, write}
-use Rattle.desk.specs.State.{writes-of}
+use Rattle.pieces.specs.AsyncSpec.{Write, AsyncView, committed, flush-writes-selective, no-outstanding-writes}
+use Rattle.cuts.specs.Prophecy.{prophecy}
 use Rattle.desk.specs.Desk.{Desk, chunk-size, view}
+use Rattle.desk.proofs.Views.{writes-counted}
 use Rattle.writelog.specs.declared.cut.CutAnswer.{CutAnswer}
 use Rattle.writelog.specs.declared.cut.CutAnswer.the-variants as cut-answer
-use Rattle.gate.specs.Opening.{Opens}
-use Rattle.gate.specs.Judgement.{Judges}
-use Rattle.gate.specs.declared.Verdict.the-variants.{Admitted}
-use Rattle.gate.proofs.Gives.{Holds, opened-fresh}
-use Rattle.epochs.specs.Foretold.{predicted-image}
+use Rattle.gate.proofs.Gives.{Holds}
+use Rattle.epochs.specs.Epoch.{flush-foretold}
+use Rattle.epochs.specs.Foretold.{predicted-image, predicted-now}
 use Rattle.tape.specs.Memory.{TapeDesk, by-tape}
 use Rattle.tape.specs.Write.{TapeWrites}
 use Rattle.tape.specs.Flush.{TapeFlushes}
 use Rattle.tape.specs.Cut.{TapeCuts}
+use Rattle.tape.proofs.NumberLaws.{ending-done}
 use Rattle.tape.proofs.Steps.{StepOfEnding, step-of-write, step-of-flush, step-of-cut}
-use Rattle.session.specs.History.{Event, nothing, written, flushed, cut-by, reopened, History, _then_, if-answered, if-cut, happen, replay}
+use Rattle.session.specs.History.{Event, nothing, written, flushed, cut-by, reopened, History, opening, _then_, if-answered, if-cut, rows-there, happen, replay}
 use Rattle.session.specs.Run as run
 use Rattle.session.specs.Run.{Step, Run}
-use Rattle.session.specs.TapeRun.{TapeStep, judged-write, flush, cut, reopen, restart, other, TapeRun, opened, _and_, tape-throughout}
-use Rattle.session.specs.TapeTheorem.{Told, predicted-of, epoch-over, tell, replay-by-tape, prediction, filled, TapeSession}
-use Rattle.session.proofs.Steps.{numbered, step-keeps}
+use Rattle.session.specs.TapeRun.{shows, TapeStep, judged-write, flush, cut, reopen, restart, other, TapeRun, opened, _and_, tape-throughout}
+use Rattle.session.specs.TapeTheorem.{foretold-end, start-after, goes-by, epoch-start, chosen-by, prediction, predictions, TapeSession}
+use Rattle.session.proofs.Steps.{numbered}
 use Rattle.session.proofs.Theorem.{invariant, session}
 
--- what a desk shows of what is told
-abbrev at : TapeDesk → Told
-at t = record { seen = view (t .memory); start = t .start }
+-- the prophecy that header and rows are, and the end that the header says
+by-header : (C : ℕ) (v : AsyncView) (tape : List ℕ) (start : ℕ) (flushing : Bool)
+    → prophecy C flushing v (rows-there C v tape (start + 1)) .durable-state ≡ committed (happen C v (cond flushing flushed (cut-by tape (start + 1))))
+unfolding happen
+by-header C v tape start true = refl
+by-header C v tape start false = refl
 
-abbrev C : TapeDesk → ℕ
-C t = chunk-size (t .memory)
+-- The image that a call by tape predicts is the one that the event makes of the view by which the epoch will end.
+pub predicted-is-the-end : (C : ℕ) (v : AsyncView) (tape : List ℕ) (start : ℕ) → predicted-image C tape start v ≡ committed (happen C v (foretold-end tape start))
+predicted-is-the-end C v tape start = by-header C v tape start (flush-foretold tape start)
+
+-- on an empty log a reopening changes nothing of the view
+nothing-lost : (C : ℕ) (s : List ℕ) (ws : List Write) → length ws ≡ 0
+    → happen C (record { state-at-last-flush = s; outstanding-writes = ws }) reopened ≡ record { state-at-last-flush = s; outstanding-writes = ws }
+unfolding happen flush-writes-selective
+nothing-lost C s [] none = refl
+nothing-lost C s (w ∷ ws) none = absurd (suc-ne-zero (length ws) none)
+
+module _ (C : ℕ) (image tape : List ℕ) where
+  -- The last image predicted stands until the epoch ends: nothing else changes the view.
+  stands : (h : History) → chosen-by C image tape h → (last : List ℕ) (before : List (List ℕ)) → predictions C image tape h ≡ last ∷ before
+      → last ≡ prediction C image tape h
+  unfolding replay happen start-after epoch-start goes-by chosen-by shows predictions
+  stands opening c last before e = absurd (suc-ne-zero (length before) (sym (ap length e)))
+  stands (h then nothing) c last before e = stands h (c .0) last before e
+  stands (h then written w) c last before e = sym (ap (λ (l : List (List ℕ)). getD l 0 []) e)
+  stands (h then flushed) c last before e = sym (ap (λ (l : List (List ℕ)). getD l 0 []) e)
+  stands (h then cut-by table at) c last before e = sym (ap (λ (l : List (List ℕ)). getD l 0 []) e)
+  stands (h then reopened) c last before e =
+      let v = replay C image h in
+      stands h (c .0) last before e
+      ∙ ap (λ (v : AsyncView). committed (happen C v (foretold-end tape (epoch-start C image h))))
+      (sym (nothing-lost C (v .state-at-last-flush) (v .outstanding-writes) (c .1)))
+
+-- a refused call leaves the start as it was
+kept-start : {t t′ : TapeDesk} → t′ ≡ t → t′ .start ≡ t .start
+kept-start same = ap (λ (t : TapeDesk). t .start) same
 
 module _ (sheet tape : List ℕ) where
   -- a step by tape is a step, and a run by tape a run
-  forget-step : {t : TapeDesk} {e : Event} {t′ : TapeDesk} → TapeStep sheet tape t e t′ → Step sheet (t .memory) e (t′ .memory)
+  forget-step : {d : Desk} {start : ℕ} {e : Event} {t′ : TapeDesk} → TapeStep sheet tape d start e t′ → Step sheet d e (t′ .memory)
   forget-step (judged-write j p) = run.judged-tape-write j p
   forget-step (flush p) = run.tape-flush p
   forget-step (cut p) = run.tape-cut p
@@ -49,155 +81,136 @@ module _ (sheet tape : List ℕ) where
   forget-step (restart e same p) = run.restart same p
   forget-step (other s) = s
 
-  pub forget : {image : List ℕ} {h : History} {t : TapeDesk} → TapeRun sheet tape image h t → Run sheet image h (t .memory)
+  pub forget : {image : List ℕ} {h : History} {d : Desk} {start : ℕ} {shown : List (List ℕ)} → TapeRun sheet tape image h d start shown → Run sheet image h d
   forget (opened same o) = run.opened same o
   forget (r and s) = run._and_ (forget r) (forget-step s)
 
-  module _ (t : TapeDesk) (h : Holds (t .memory) sheet) where
-    -- where nothing happened, view and start are what they were
-    still : {d′ : Desk} {start′ : ℕ} → Step sheet (t .memory) nothing d′ → start′ ≡ t .start → record { seen = view d′; start = start′ } ≡ at t
-    unfolding happen
-    still s same = ap₂ (λ (v : AsyncView) (a : ℕ). record { seen = v; start = a }) (step-keeps h s .happened) same
+  -- What a step does by the tape: the start moves past an epoch that ends, the end is the one foretold, and an accepted call predicts.
+  record Follows (d : Desk) (start : ℕ) (e : Event) (t′ : TapeDesk) : Type 0 where
+    starts : t′ .start ≡ start-after (chunk-size d) (view d) start e
+    goes : goes-by tape (view d) start e
+    predicts : shows e (t′ .predicted) ≡ shows e (predicted-now (t′ .memory) tape (t′ .start))
 
-    ending-tells : {t′ : TapeDesk} → StepOfEnding t tape t′ → at t′ ≡ epoch-over (C t) tape (at t)
-    ending-tells e = ap₂ (λ (v : AsyncView) (a : ℕ). record { seen = v; start = a }) (e .view-after) (e .start-after)
+  module _ {d : Desk} (h : Holds d sheet) {start : ℕ} where
+    -- where nothing happened
+    idle : {t′ : TapeDesk} → t′ .start ≡ start → Follows d start nothing t′
+    unfolding start-after goes-by shows
+    idle same = record { starts = same; goes = tt; predicts = refl }
 
-    write-tells : {work : List ℕ} {w : Write} {n : ℕ} {work′ : List ℕ} (a : Answer) {t′ : TapeDesk}
-        → Judges (t .memory) sheet work w (Admitted n) work′ → TapeWrites t tape w a t′ → at t′ ≡ tell (C t) tape (at t) (if-answered a (written w))
-    unfolding tell
-    write-tells answer.Done j p =
+    writes-follow : {predicted : List ℕ} {w : Write} (a : Answer) {t′ : TapeDesk} → TapeWrites (by-tape d start predicted) tape w a t′
+        → Follows d start (if-answered a (written w)) t′
+    unfolding start-after goes-by shows
+    writes-follow {w = w} answer.Done p =
         let s = step-of-write (h .sized) p (sym (p .answers)) in
-        ap₂ (λ (v : AsyncView) (a : ℕ). record { seen = v; start = a }) (s .view-after) (s .start-after)
-    write-tells (answer.Refused why) j p =
-        still (run.judged-tape-write j p) (ap (λ (t : TapeDesk). t .start) (left _ (p .leaves) (refusal-not-done why) (sym (p .answers))))
+        record {
+          starts = s .start-after;
+          goes = tt;
+          predicts =
+              ap (λ (x : List ℕ). x ∷ [])
+              (s .predicted-after ∙ sym (ap₂ (λ (a : ℕ) (v : AsyncView). predicted-image (chunk-size d) tape a v) (s .start-after) (s .view-after)));
+        }
+    writes-follow (answer.Refused why) p = idle (kept-start (left _ (p .leaves) (refusal-not-done why) (sym (p .answers))))
 
-    flush-tells : (a : Answer) {t′ : TapeDesk} → TapeFlushes t tape a t′ → at t′ ≡ tell (C t) tape (at t) (if-answered a flushed)
-    unfolding tell
-    flush-tells answer.Done p = ending-tells (step-of-flush (h .sized) p (sym (p .answers)) .ending)
-    flush-tells (answer.Refused why) p =
-        still (run.tape-flush p) (ap (λ (t : TapeDesk). t .start) (left _ (p .leaves) (refusal-not-done why) (sym (p .answers))))
+    flushes-follow : {predicted : List ℕ} (a : Answer) {t′ : TapeDesk} → TapeFlushes (by-tape d start predicted) tape a t′
+        → Follows d start (if-answered a flushed) t′
+    unfolding start-after goes-by shows
+    flushes-follow {predicted} answer.Done p =
+        let s = step-of-flush (h .sized) p (sym (p .answers)) .ending in
+        let as-said = ending-done true (by-tape d start predicted) tape (sym (p .answers)) .foretold in
+        record {
+          starts = s .start-after;
+          goes = ap (λ (b : Bool). cond b flushed (cut-by tape (start + 1))) as-said;
+          predicts = ap (λ (x : List ℕ). x ∷ []) (s .predicted-after);
+        }
+    flushes-follow (answer.Refused why) p = idle (kept-start (left _ (p .leaves) (refusal-not-done why) (sym (p .answers))))
 
-    cut-tells : (a : CutAnswer) {t′ : TapeDesk} → TapeCuts t tape a t′ → at t′ ≡ tell (C t) tape (at t) (if-cut a (cut-by tape (t .start + 1)))
-    unfolding tell
-    cut-tells (cut-answer.Kept k) p = ending-tells (step-of-cut (h .sized) p (numbered (p .answers)) .ending)
-    cut-tells (cut-answer.Refused why) p =
-        still (run.tape-cut p) (ap (λ (t : TapeDesk). t .start) (left _ (p .leaves) (refusal-not-done why) (numbered (p .answers))))
+    cuts-follow : {predicted : List ℕ} (a : CutAnswer) {t′ : TapeDesk} → TapeCuts (by-tape d start predicted) tape a t′
+        → Follows d start (if-cut a (cut-by tape (start + 1))) t′
+    unfolding start-after goes-by shows
+    cuts-follow {predicted} (cut-answer.Kept k) p =
+        let s = step-of-cut (h .sized) p (numbered (p .answers)) .ending in
+        let as-said = ending-done false (by-tape d start predicted) tape (numbered (p .answers)) .foretold in
+        record {
+          starts = s .start-after;
+          goes = ap (λ (b : Bool). cond b flushed (cut-by tape (start + 1))) as-said;
+          predicts = ap (λ (x : List ℕ). x ∷ []) (s .predicted-after);
+        }
+    cuts-follow (cut-answer.Refused why) p = idle (kept-start (left _ (p .leaves) (refusal-not-done why) (numbered (p .answers))))
 
-    -- on an empty log the view is the image alone, before and after, whatever memory is handed in for state and log
-    reopened-tells : {found d′ : Desk} → t .memory .state .count ≡ 0 → found .image ≡ t .memory .image → Opens found sheet answer.Done d′
-        → at (by-tape d′ (t .start) (t .predicted)) ≡ tell (C t) tape (at t) reopened
-    unfolding tell writes-of
-    reopened-tells {found} empty same p =
-        let d = t .memory in
-        ap (λ (d : Desk). at (by-tape d (t .start) (t .predicted))) (opened-fresh p refl)
-        ∙ ap₂ (λ (x : List ℕ) (k : ℕ). record { seen = record { state-at-last-flush = x; outstanding-writes = writes-of (take k (d .state .records)) (d .log) }; start = t .start })
-        same (sym empty)
+    reopened-follows : {d′ : Desk} {predicted : List ℕ} → d .state .count ≡ 0 → Follows d start reopened (by-tape d′ start predicted)
+    unfolding start-after goes-by shows
+    reopened-follows empty = record { starts = refl; goes = writes-counted d (omega (arith, h .sized, h .facts .few)) ∙ empty; predicts = refl }
 
-    open-tells : (a : Answer) {d′ : Desk} → t .memory .state .count ≡ 0 → Opens (t .memory) sheet a d′
-        → at (by-tape d′ (t .start) (t .predicted)) ≡ tell (C t) tape (at t) (if-answered a reopened)
-    unfolding tell
-    open-tells answer.Done empty p = reopened-tells empty refl p
-    open-tells (answer.Refused why) empty p = still (run.reopen p) refl
+    openings-follow : {d′ : Desk} {predicted : List ℕ} (a : Answer) → d .state .count ≡ 0
+        → Follows d start (if-answered a reopened) (by-tape d′ start predicted)
+    openings-follow answer.Done empty = reopened-follows empty
+    openings-follow (answer.Refused why) empty = idle refl
 
-  tells : {t : TapeDesk} {e : Event} {t′ : TapeDesk} → Holds (t .memory) sheet → TapeStep sheet tape t e t′ → at t′ ≡ tell (C t) tape (at t) e
-  unfolding tell
-  tells h (judged-write {answer = a} j p) = write-tells _ h a j p
-  tells h (flush {answer = a} p) = flush-tells _ h a p
-  tells h (cut {answer = a} p) = cut-tells _ h a p
-  tells h (reopen {t = t} {answer = a} empty p) = open-tells t h a empty p
-  tells h (restart {t = t} empty same p) = reopened-tells t h empty same p
-  tells h (other {t = t} s) = still t h s refl
+    follows : {e : Event} {t′ : TapeDesk} → TapeStep sheet tape d start e t′ → Follows d start e t′
+    follows (judged-write {answer = a} j p) = writes-follow a p
+    follows (flush {answer = a} p) = flushes-follow a p
+    follows (cut {answer = a} p) = cuts-follow a p
+    follows (reopen {answer = a} empty p) = openings-follow a empty
+    follows (restart empty same p) = reopened-follows empty
+    follows (other s) = idle refl
 
-  told : {image : List ℕ} {h : History} {t : TapeDesk} → TapeRun sheet tape image h t → at t ≡ replay-by-tape (C t) tape image h
-  unfolding replay replay-by-tape
-  told {image} (opened same o) = ap (λ (v : AsyncView). record { seen = v; start = 0 }) (invariant sheet image (run.opened same o) .replayed)
-  told {image} (_and_ {t = t} {e = e} r s) = tells (invariant sheet image (forget r) .holds) s ∙ ap (λ (x : Told). tell (C t) tape x e) (told r)
+  module _ (image : List ℕ) where
+    -- what holds along a run by tape, beside what holds along every run
+    record Along (h : History) (d : Desk) (start : ℕ) (shown : List (List ℕ)) : Type 0 where
+      start-told : start ≡ epoch-start (chunk-size d) image h
+      chosen : chosen-by (chunk-size d) image tape h
+      shown-told : shown ≡ predictions (chunk-size d) image tape h
 
-  -- what the run says of the next accepted call by tape, whatever the buffer held
-  module _ {image : List ℕ} {h : History} {t : TapeDesk} (r : TapeRun sheet tape image h t) (predicted : List ℕ) where
-    abbrev lending : TapeDesk
-    lending = by-tape (t .memory) (t .start) predicted
+    -- the image predicted for a desk whose view and start the history tells
+    foretells : (h : History) (d : Desk) {start : ℕ} → view d ≡ replay (chunk-size d) image h → start ≡ epoch-start (chunk-size d) image h
+        → predicted-now d tape start ≡ prediction (chunk-size d) image tape h
+    unfolding replay
+    foretells h d {start} seen starts =
+        predicted-is-the-end (chunk-size d) (view d) tape start
+        ∙ ap₂ (λ (v : AsyncView) (a : ℕ). committed (happen (chunk-size d) v (foretold-end tape a))) seen starts
 
-    holds : Holds (t .memory) sheet
-    holds = invariant sheet image (forget r) .holds
-
-    write-is-predicted : {w : Write} {t′ : TapeDesk} → TapeWrites lending tape w answer.Done t′ → t′ .predicted ≡ prediction (C t) tape image (h then written w)
-    unfolding replay-by-tape tell
-    write-is-predicted {w} p =
-        step-of-write (holds .sized) p (sym (p .answers)) .predicted-after
-        ∙ ap (λ (x : Told). predicted-image (C t) tape (x .start) (write (x .seen) w)) (told r)
-
-    -- the image that was predicted, with which the next epoch begins
-    ending-is-predicted : {t′ : TapeDesk} → StepOfEnding lending tape t′
-        → (t′ .memory .image ≡ prediction (C t) tape image h) × (t′ .predicted ≡ predicted-of (C t) tape (epoch-over (C t) tape (replay-by-tape (C t) tape image h)))
-    ending-is-predicted e = (
-      ap (λ (v : AsyncView). v .state-at-last-flush) (e .view-after) ∙ ap (predicted-of (C t) tape) (told r),
-      e .predicted-after ∙ ap (predicted-of (C t) tape) (ending-tells lending holds e ∙ ap (epoch-over (C t) tape) (told r)),
-    )
-
-    flush-is-predicted : {t′ : TapeDesk} → TapeFlushes lending tape answer.Done t′
-        → (t′ .memory .image ≡ prediction (C t) tape image h) × (t′ .predicted ≡ prediction (C t) tape image (h then flushed))
-    unfolding replay-by-tape tell
-    flush-is-predicted p = ending-is-predicted (step-of-flush (holds .sized) p (sym (p .answers)) .ending)
-
-    cut-is-predicted : {k : ℕ} {t′ : TapeDesk} → TapeCuts lending tape (cut-answer.Kept k) t′
-        → (t′ .memory .image ≡ prediction (C t) tape image h) × (t′ .predicted ≡ prediction (C t) tape image (h then cut-by tape (t .start + 1)))
-    unfolding replay-by-tape tell
-    cut-is-predicted p = ending-is-predicted (step-of-cut (holds .sized) p (numbered (p .answers)) .ending)
-
-  -- and of the buffer after any: an accepted call fills it, and a refused one leaves it as it was
-  module _ {image : List ℕ} {h : History} {t : TapeDesk} (r : TapeRun sheet tape image h t) (before : filled h ≡ true → t .predicted ≡ prediction (C t) tape image h) where
-    abbrev Filled : History → List ℕ → Type 0
-    Filled h predicted = filled h ≡ true → predicted ≡ prediction (C t) tape image h
-
-    unfilled : {t′ : TapeDesk} → t′ ≡ t → Filled h (t′ .predicted)
-    unfilled same f = ap (λ (t : TapeDesk). t .predicted) same ∙ before f
-
-    after-write : {w : Write} (a : Answer) {t′ : TapeDesk} → TapeWrites t tape w a t′ → Filled (h then if-answered a (written w)) (t′ .predicted)
-    unfolding filled replay-by-tape tell
-    after-write answer.Done p f = write-is-predicted r (t .predicted) p
-    after-write (answer.Refused why) p f = unfilled (left _ (p .leaves) (refusal-not-done why) (sym (p .answers))) f
-
-    after-flush : (a : Answer) {t′ : TapeDesk} → TapeFlushes t tape a t′ → Filled (h then if-answered a flushed) (t′ .predicted)
-    unfolding filled replay-by-tape tell
-    after-flush answer.Done p f = flush-is-predicted r (t .predicted) p .1
-    after-flush (answer.Refused why) p f = unfilled (left _ (p .leaves) (refusal-not-done why) (sym (p .answers))) f
-
-    after-cut : (a : CutAnswer) {t′ : TapeDesk} → TapeCuts t tape a t′ → Filled (h then if-cut a (cut-by tape (t .start + 1))) (t′ .predicted)
-    unfolding filled replay-by-tape tell
-    after-cut (cut-answer.Kept k) p f = cut-is-predicted r (t .predicted) p .1
-    after-cut (cut-answer.Refused why) p f = unfilled (left _ (p .leaves) (refusal-not-done why) (numbered (p .answers))) f
-
-    after-opening : (a : Answer) → Filled (h then if-answered a reopened) (t .predicted)
-    unfolding filled replay-by-tape tell
-    after-opening answer.Done f = before f
-    after-opening (answer.Refused why) f = before f
-
-  buffer-told : {image : List ℕ} {h : History} {t : TapeDesk} → TapeRun sheet tape image h t → filled h ≡ true → t .predicted ≡ prediction (C t) tape image h
-  unfolding filled replay-by-tape tell
-  buffer-told (opened same o) f = absurd (true≢false (sym f))
-  buffer-told (r and judged-write {answer = a} j p) f = after-write r (λ g. buffer-told r g) a p f
-  buffer-told (r and flush {answer = a} p) f = after-flush r (λ g. buffer-told r g) a p f
-  buffer-told (r and cut {answer = a} p) f = after-cut r (λ g. buffer-told r g) a p f
-  buffer-told (r and reopen {answer = a} empty p) f = after-opening r (λ g. buffer-told r g) a f
-  buffer-told (r and restart empty same p) f = buffer-told r f
-  buffer-told (r and other s) f = buffer-told r f
+    along : {h : History} {d : Desk} {start : ℕ} {shown : List (List ℕ)} → TapeRun sheet tape image h d start shown → Along h d start shown
+    unfolding epoch-start chosen-by predictions
+    along (opened same o) = record { start-told = refl; chosen = tt; shown-told = refl }
+    along (_and_ {h = h} {d} {start} {e = e} {t′} r s) =
+        let i = invariant sheet image (forget r) in
+        let before = along r in
+        let f = follows (i .holds) s in
+        let starts = f .starts ∙ ap₂ (λ (v : AsyncView) (a : ℕ). start-after (chunk-size d) v a e) (i .replayed) (before .start-told) in
+        let seen = invariant sheet image (run._and_ (forget r) (forget-step s)) .replayed in
+        record {
+          start-told = starts;
+          chosen = (
+            before .chosen,
+            subst (λ (a : ℕ). goes-by tape (replay (chunk-size d) image h) a e) (before .start-told)
+            (subst (λ (v : AsyncView). goes-by tape v start e) (i .replayed) (f .goes)),
+          );
+          shown-told =
+              ap₂ (λ (a b : List (List ℕ)). a ++ b)
+              (f .predicts ∙ ap (shows e) (foretells (h then e) (t′ .memory) seen starts))
+              (before .shown-told);
+        }
 
   -- the theorem
-  pub tape-session : {image : List ℕ} {h : History} {t : TapeDesk} → TapeRun sheet tape image h t → TapeSession sheet tape image h t
-  tape-session {image} r =
+  pub tape-session : {image : List ℕ} {h : History} {d : Desk} {start : ℕ} {shown : List (List ℕ)} → TapeRun sheet tape image h d start shown
+      → TapeSession sheet tape image h d start shown
+  tape-session {image} {h} {d} {start} r =
+      let i = invariant sheet image (forget r) in
+      let a = along image r in
+      let predicted-told = foretells image h d (i .replayed) (a .start-told) in
       record {
         session = session sheet image (forget r);
-        view-is-told = ap (λ (x : Told). x .seen) (told r);
-        start-is-told = ap (λ (x : Told). x .start) (told r);
-        predicted-is-told = buffer-told r;
-        write-predicts = λ {predicted} {w} {t′} p. write-is-predicted r predicted p;
-        flush-leaves-the-prediction = λ {predicted} {t′} p. flush-is-predicted r predicted p;
-        cut-leaves-the-prediction = λ {predicted} {k} {t′} p. cut-is-predicted r predicted p;
+        choices-are-the-tapes = a .chosen;
+        start-is-told = a .start-told;
+        predictions-are-told = a .shown-told;
+        last-one-stands = λ last before e. stands (chunk-size d) image tape h (a .chosen) last before (sym (a .shown-told) ∙ e);
+        flush-leaves-the-prediction = λ {predicted} {t′} p. step-of-flush (i .holds .sized) p (sym (p .answers)) .ending .image-after ∙ predicted-told;
+        cut-leaves-the-prediction = λ {predicted} {k} {t′} p. step-of-cut (i .holds .sized) p (numbered (p .answers)) .ending .image-after ∙ predicted-told;
       }
 
   -- and at every prefix
-  pub tape-session-throughout : {image : List ℕ} {h : History} {t : TapeDesk} (r : TapeRun sheet tape image h t) → tape-throughout sheet tape (TapeSession sheet tape image) r
+  pub tape-session-throughout : {image : List ℕ} {h : History} {d : Desk} {start : ℕ} {shown : List (List ℕ)} (r : TapeRun sheet tape image h d start shown)
+      → tape-throughout sheet tape (TapeSession sheet tape image) r
   unfolding tape-throughout
   tape-session-throughout (opened same o) = tape-session (opened same o)
   tape-session-throughout (r and s) = (tape-session-throughout r, tape-session (r and s))

@@ -71,6 +71,10 @@ module _ (sheet : List ℕ) where
     restart : {d found d′ : Desk}
         → found .image ≡ d .image → Opens found sheet Done d′
         → Step d reopened d′
+    -- a reopening that is refused over whatever memory it is handed
+    refused-opening : {d found found′ : Desk} {why : Refusal}
+        → Opens found sheet (Refused why) found′
+        → Step d nothing d
     -- Reads, which fill the caller's buffer alone. The companion question and the viewer look, and promise nothing of memory afterwards.
     fill : {d : Desk} {work work′ : List ℕ} {addr len : ℕ} {answer : Answer}
         → Fills d work addr len answer work′

@@ -1,83 +1,80 @@
 -- Demand 3, by tape: "With a tape of cut choices fixed beforehand, and every recorded write, flush and cut going by it, the image predicted at each step
--- is the replay with those choices." `tape-session : TapeRun sheet tape image h t → TapeSession sheet tape image h t`
--- (`proofs/TapeTheorem.antt`).
+-- is the replay with those choices." `tape-session : TapeRun sheet tape image h d start shown → TapeSession sheet tape image h d start shown`
+-- (`proofs/TapeTheorem.antt`). The replay is demand 2's: its history ends each epoch as the tape says.
 use Prim.Native.Nat.{ℕ, _+_}
 use mathlib.Core.Path.{_≡_}
-use mathlib.Core.Bool.{Bool, true, false}
-use mathlib.Core.List.{List}
+use mathlib.Core.Bool.{cond}
+use mathlib.Core.List.{List, [], _∷_, _++_}
 use lib.ListN.{length}
 use Rattle.region.specs.declared.Answer.the-variants.{Done}
-use Rattle.pieces.specs.AsyncSpec.{Write, AsyncView, write}
+use Rattle.pieces.specs.AsyncSpec.{AsyncView, committed, no-outstanding-writes}
 use Rattle.cuts.specs.Bits.{view-chunks}
-use Rattle.desk.specs.Desk.{chunk-size, view}
+use Rattle.desk.specs.Desk.{Desk, chunk-size}
 use Rattle.writelog.specs.declared.cut.CutAnswer.the-variants.{Kept}
-use Rattle.epochs.specs.Epoch.{row-place}
-use Rattle.epochs.specs.Foretold.{predicted-image}
+use Rattle.epochs.specs.Epoch.{flush-foretold, row-place}
 use Rattle.tape.specs.Memory.{TapeDesk, by-tape}
-use Rattle.tape.specs.Write.{TapeWrites}
 use Rattle.tape.specs.Flush.{TapeFlushes}
 use Rattle.tape.specs.Cut.{TapeCuts}
-use Rattle.session.specs.History.{Event, nothing, written, flushed, cut-by, reopened, History, opening, _then_, settled}
+use Rattle.session.specs.History.{Event, nothing, written, flushed, cut-by, reopened, History, opening, _then_, replay}
 use Rattle.session.specs.Theorem.{Session}
+use Rattle.session.specs.TapeRun.{shows}
 
--- what the events and the tape tell between them: a view, and where its epoch starts
-pub record Told : Type 0 where
-  pub seen : AsyncView
-  pub start : ℕ
+-- how the epoch will end, as its header says: by a flush, or by a cut that goes by the epoch's rows
+abbrev pub foretold-end : (tape : List ℕ) (start : ℕ) → Event
+foretold-end tape start = cond (flush-foretold tape start) flushed (cut-by tape (start + 1))
 
-module _ (C : ℕ) (tape : List ℕ) where
-  -- The image predicted: the replay of the outstanding writes with the epoch's rows, all kept under header 80.
-  abbrev pub predicted-of : Told → List ℕ
-  predicted-of t = predicted-image C tape (t .start) (t .seen)
+-- past the epoch's header and a row for each outstanding write
+abbrev pub past-epoch : (C : ℕ) → AsyncView → (start : ℕ) → ℕ
+past-epoch C v start = row-place (view-chunks C v) start (length (v .outstanding-writes))
 
-  -- the end of an epoch, past its header and rows
-  abbrev pub epoch-over : Told → Told
-  epoch-over t =
-      record { seen = settled (predicted-of t); start = row-place (view-chunks C (t .seen)) (t .start) (length (t .seen .outstanding-writes)) }
+-- where the epoch starts that an event leaves: a flush or a cut ends one
+unfoldable pub start-after : (C : ℕ) → AsyncView → (start : ℕ) → Event → ℕ
+start-after C v start nothing = start
+start-after C v start (written w) = start
+start-after C v start flushed = past-epoch C v start
+start-after C v start (cut-by table at) = past-epoch C v start
+start-after C v start reopened = start
 
-  -- The tape alone chooses: that a cut came is told by the event, what it kept by the tape.
-  unfoldable pub tell : Told → Event → Told
-  tell t nothing = t
-  tell t (written w) = record { seen = write (t .seen) w; start = t .start }
-  tell t flushed = epoch-over t
-  tell t (cut-by table at) = epoch-over t
-  tell t reopened = t
+-- what makes an event one by the tape: an epoch ends as its header says, and a reopening loses no write
+unfoldable pub goes-by : (tape : List ℕ) → AsyncView → (start : ℕ) → Event → Type 0
+goes-by tape v start nothing = Unit
+goes-by tape v start (written w) = Unit
+goes-by tape v start flushed = foretold-end tape start ≡ flushed
+goes-by tape v start (cut-by table at) = foretold-end tape start ≡ cut-by table at
+goes-by tape v start reopened = no-outstanding-writes v
 
-  -- the replay of a history with the tape's choices
-  unfoldable pub replay-by-tape : List ℕ → History → Told
-  replay-by-tape image opening = record { seen = settled image; start = 0 }
-  replay-by-tape image (h then e) = tell (replay-by-tape image h) e
+module _ (C : ℕ) (image : List ℕ) where
+  unfoldable pub epoch-start : History → ℕ
+  epoch-start opening = 0
+  epoch-start (h then e) = start-after C (replay C image h) (epoch-start h) e
 
-  abbrev pub prediction : List ℕ → History → List ℕ
-  prediction image h = predicted-of (replay-by-tape image h)
+  module _ (tape : List ℕ) where
+    -- every choice in the history is the tape's
+    unfoldable pub chosen-by : History → Type 0
+    chosen-by opening = Unit
+    chosen-by (h then e) = chosen-by h × goes-by tape (replay C image h) (epoch-start h) e
 
--- an accepted call by tape has filled the buffer for the predicted image
-unfoldable pub filled : History → Bool
-filled opening = false
-filled (h then nothing) = filled h
-filled (h then written w) = true
-filled (h then flushed) = true
-filled (h then cut-by table at) = true
-filled (h then reopened) = filled h
+    -- the image predicted: what the replay gives if the epoch ends as its header says
+    abbrev pub prediction : History → List ℕ
+    prediction h = committed (replay C image (h then foretold-end tape (epoch-start h)))
 
-pub record TapeSession (sheet tape image : List ℕ) (h : History) (t : TapeDesk) : Type 0 where
+    -- the images predicted along a history, the last one first
+    unfoldable pub predictions : History → List (List ℕ)
+    predictions opening = []
+    predictions (h then e) = shows e (prediction (h then e)) ++ predictions h
+
+pub record TapeSession (sheet tape image : List ℕ) (h : History) (d : Desk) (start : ℕ) (shown : List (List ℕ)) : Type 0 where
   -- a session by tape is a session
-  pub session : Session sheet image h (t .memory)
-  -- the image found and the outstanding writes are the replay with the tape's choices
-  pub view-is-told : view (t .memory) ≡ replay-by-tape (chunk-size (t .memory)) tape image h .seen
-  pub start-is-told : t .start ≡ replay-by-tape (chunk-size (t .memory)) tape image h .start
-  -- "the image predicted at each step": what the buffer holds, once a call has filled it
-  pub predicted-is-told : filled h ≡ true → t .predicted ≡ prediction (chunk-size (t .memory)) tape image h
-  -- whatever the buffer held: a write that the tape call accepts next leaves the prediction with it in the history,
-  pub write-predicts : {predicted : List ℕ} {w : Write} {t′ : TapeDesk}
-      → TapeWrites (by-tape (t .memory) (t .start) predicted) tape w Done t′
-      → t′ .predicted ≡ prediction (chunk-size (t .memory)) tape image (h then written w)
-  -- and a flush or a cut that it accepts next leaves what was predicted, and that is the prediction of the next epoch's beginning
-  pub flush-leaves-the-prediction : {predicted : List ℕ} {t′ : TapeDesk}
-      → TapeFlushes (by-tape (t .memory) (t .start) predicted) tape Done t′
-      → (t′ .memory .image ≡ prediction (chunk-size (t .memory)) tape image h)
-      × (t′ .predicted ≡ prediction (chunk-size (t .memory)) tape image (h then flushed))
-  pub cut-leaves-the-prediction : {predicted : List ℕ} {k : ℕ} {t′ : TapeDesk}
-      → TapeCuts (by-tape (t .memory) (t .start) predicted) tape (Kept k) t′
-      → (t′ .memory .image ≡ prediction (chunk-size (t .memory)) tape image h)
-      × (t′ .predicted ≡ prediction (chunk-size (t .memory)) tape image (h then cut-by tape (t .start + 1)))
+  pub session : Session sheet image h d
+  -- its choices are the tape's, and it tells where the epoch starts
+  pub choices-are-the-tapes : chosen-by (chunk-size d) image tape h
+  pub start-is-told : start ≡ epoch-start (chunk-size d) image h
+  -- "the image predicted at each step": what the accepted calls left in their buffers
+  pub predictions-are-told : shown ≡ predictions (chunk-size d) image tape h
+  -- The last one stands until the epoch ends,
+  pub last-one-stands : (last : List ℕ) (before : List (List ℕ)) → shown ≡ last ∷ before → last ≡ prediction (chunk-size d) image tape h
+  -- and the flush or the cut that is accepted then leaves it, whatever buffer it is lent.
+  pub flush-leaves-the-prediction : {predicted : List ℕ} {t′ : TapeDesk} → TapeFlushes (by-tape d start predicted) tape Done t′
+      → t′ .memory .image ≡ prediction (chunk-size d) image tape h
+  pub cut-leaves-the-prediction : {predicted : List ℕ} {k : ℕ} {t′ : TapeDesk} → TapeCuts (by-tape d start predicted) tape (Kept k) t′
+      → t′ .memory .image ≡ prediction (chunk-size d) image tape h
