@@ -3,8 +3,11 @@ use Prim.Native.Nat.{ℕ, suc}
 use native.Mathlib.Nat.{suc-ne-zero}
 use native.Mathlib.Omega.{arith}
 use mathlib.Core.Path.{_≡_, refl, sym, ap, subst, _∙_}
-use mathlib.Core.List.{List}
+use mathlib.Core.Bool.{Bool, true, false}
+use mathlib.Core.List.{List, []}
+use lib.Dec.{eqb}
 use lib.ListN.{length}
+use borrow.Author.Tests.{eqb-true}
 use Rattle.region.specs.Limits.{log-limit}
 use Rattle.region.specs.Answer.{answer-number}
 use Rattle.region.specs.declared.Answer.{Answer}
@@ -13,7 +16,8 @@ use Rattle.region.specs.declared.Refusal.{Refusal}
 use Rattle.region.proofs.AnswerLaws.{answers-by-number, refusal-not-done, done-changed, refused-left}
 use Rattle.pieces.specs.AsyncSpec.{Write}
 use Rattle.cuts.specs.Packed.{are-bytes}
-use Rattle.desk.specs.Desk.{Desk, settled-desk}
+use Rattle.desk.specs.State.{fresh}
+use Rattle.desk.specs.Desk.{Desk, desk, settled-desk}
 use Rattle.writelog.specs.Cut.{cut-report}
 use Rattle.writelog.specs.declared.cut.CutAnswer.{CutAnswer}
 use Rattle.writelog.specs.declared.cut.CutAnswer.the-variants as cut-answer
@@ -22,17 +26,19 @@ use Rattle.gate.specs.Judgement.{verdict-report, Judges}
 use Rattle.gate.specs.Meaning.{could-be-left}
 use Rattle.gate.specs.declared.Verdict.{Verdict}
 use Rattle.gate.specs.declared.Verdict.the-variants as verdict
+use Rattle.gate.proofs.OpeningLaws.{opens-other-log}
+use Rattle.boundary.specs.Words.{state-words}
 use Rattle.boundary.specs.Lent.{Lent, desk-of, lent-of, plainly}
 use Rattle.boundary.specs.Gate.{SkaldriftOpen, SkaldriftJudge}
 use Rattle.boundary.proofs.CallLaws.{state-sized, sized-if-done}
 use Rattle.boundary.proofs.FunctionLaws.{cut-right}
-use Rattle.session.specs.History.{Event, cut-by, reopened, History, opening, _then_, if-answered, if-admitted, if-cut}
+use Rattle.session.specs.History.{Event, nothing, cut-by, reopened, History, opening, _then_, if-answered, if-admitted, if-cut}
 use Rattle.session.specs.Run.{Step, Run, throughout}
 use Rattle.session.specs.Run as run
 use Rattle.session.specs.Theorem.{Session}
 use Rattle.session.proofs.Theorem.{power-loss-cuts, session, session-throughout}
 use Rattle.linked.proofs.Promises.{linked-open, sized-after-open, linked-write, sized-after-write, linked-read, linked-flush, sized-after-flush, linked-cut, sized-after-cut, linked-judge, linked-gate, sized-after-gate, linked-tape-write, sized-after-tape-write, linked-tape-flush, sized-after-tape-flush, linked-tape-cut, sized-after-tape-cut}
-use Rattle.linked.specs.Calls.{if-0, Call, gate, judge, judged-write, judged-tape-write, refused-write, refused-tape-write, flush, tape-flush, cut, tape-cut, reopen, restart, read, Calls, opened, _and_}
+use Rattle.linked.specs.Calls.{if-0, Call, gate, judge, judged-write, judged-tape-write, refused-write, refused-tape-write, flush, tape-flush, cut, tape-cut, reopen, restart, refused-opening, read, Calls, opened, _and_}
 
 -- the event goes by the number
 pub answer-event : (a : Answer) (e : Event) {n : ℕ} → answer-number a ≡ n → if-answered a e ≡ if-0 n e
@@ -91,6 +97,18 @@ module _ (sheet : List ℕ) where
   renamed : {d d′ : Desk} {e e′ : Event} → e ≡ e′ → Step sheet d e d′ → Step sheet d e′ d′
   renamed {d} {d′} same s = subst (λ (e : Event). Step sheet d e d′) same s
 
+  -- A refused opening leaves the desk alone. Over words that say no state it is no call of the library's: there a call stands for it that is refused too,
+  -- over an empty log buffer.
+  refused-over-any : (d : Desk) {found found′ : Lent} {why : ℕ} → SkaldriftOpen found sheet (suc why) found′ → Step sheet d nothing d
+  refused-over-any d {found} {found′} {why} p = go (eqb (length (found .words)) state-words) refl
+    where
+      go : (t : Bool) → eqb (length (found .words)) state-words ≡ t → Step sheet d nothing d
+      go true e =
+          let (a, same, o) = linked-open (eqb-true (length (found .words)) state-words e) p in
+          let (r, is) = refused-of a same in
+          run.refused-opening (rw is at o)
+      go false e = run.refused-opening (opens-other-log {d = desk [] fresh []} (λ same. absurd (omega (arith, same))))
+
   -- each call leaves words that say a state again, and is a step of the library
   pub call-is-a-step : {m : Lent} {e : Event} {m′ : Lent} → state-sized plainly m → Call sheet m e m′ → state-sized plainly m′ × Step sheet (desk-of m) e (desk-of m′)
   call-is-a-step sized (gate p) = let (v, same, told, g) = linked-gate sized p in (sized-after-gate sized p, renamed (verdict-event v _ same) (run.gate g))
@@ -119,6 +137,7 @@ module _ (sheet : List ℕ) where
       (sized-after-tape-cut sized p, renamed (cut-event a _ same) (run.tape-cut c))
   call-is-a-step sized (reopen p) = let (a, same, o) = linked-open sized p in (sized-after-open sized p, renamed (answer-event a _ same) (run.reopen o))
   call-is-a-step sized (restart image p) = let (again, o) = opens p in (again, run.restart image o)
+  call-is-a-step sized (refused-opening {m = m} p) = (sized, refused-over-any (desk-of m) p)
   call-is-a-step sized (read p) = let (a, same, f) = linked-read sized p in (sized, run.fill f)
 
   module _ (image : List ℕ) where

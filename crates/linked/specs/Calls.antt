@@ -56,6 +56,10 @@ module _ (sheet : List ℕ) where
     restart : {m found m′ : Lent}
         → found .image ≡ m .image → SkaldriftOpen found sheet 0 m′
         → Call m reopened m′
+    -- a reopening that is refused over whatever memory it is handed
+    refused-opening : {m found found′ : Lent} {why : ℕ}
+        → SkaldriftOpen found sheet (suc why) found′
+        → Call m nothing m
     read : {m : Lent} {work work′ : List ℕ} {addr len number : ℕ}
         → SkaldriftRead m work addr len number work′
         → Call m nothing m
