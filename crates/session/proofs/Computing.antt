@@ -11,6 +11,7 @@ use Rattle.sheet.specs.Sheet.{clause-holds, empty-holds, join, holds, read-tagg
 use Rattle.sheet.specs.Sheet.{filling, read-filling, read-whole, read-sheet, well-formed, obeys}
 use Rattle.desk.specs.State.{together, writes-of, records-inside, sound-for}
 use Rattle.writelog.specs.Write.{write-number}
+use Rattle.writelog.specs.Read.{asked-number}
 use Rattle.writelog.specs.Flush.{flush-number}
 use Rattle.writelog.specs.Cut.{cut-number}
 use Rattle.gate.specs.Opening.{open-number}
@@ -18,8 +19,9 @@ use Rattle.gate.specs.Judgement.{judgement}
 use Rattle.epochs.specs.Epoch.{epoch-number}
 use Rattle.tape.specs.Write.{tape-room-number, tape-write-number}
 use Rattle.tape.specs.Ending.{ending-number}
 use Rattle.session.specs.History.{happen, replay}
-use Rattle.session.specs.TapeTheorem.{tell, replay-by-tape, filled}
+use Rattle.session.specs.TapeRun.{shows}
+use Rattle.session.specs.TapeTheorem.{start-after, goes-by, epoch-start, chosen-by, predictions}
 
 unfoldable images : Type 0
 unfolding tab tab-from update-bytes apply-write-selective flush-writes flush-writes-selective
@@ -38,7 +40,7 @@ unfolding field read-field read-tagged read-entry read-members read-rest read-ru
 reading = record {}
 
 unfoldable numbers : Type 0
-unfolding together writes-of records-inside sound-for write-number flush-number cut-number open-number judgement
+unfolding together writes-of records-inside sound-for write-number asked-number flush-number cut-number open-number judgement
 numbers = record {}
 
 unfoldable tapes : Type 0
@@ -46,5 +48,5 @@ unfolding epoch-number tape-room-number tape-write-number ending-number
 tapes = record {}
 
 unfoldable pub everything : Type 0
-unfolding images choices rules reading numbers tapes happen replay tell replay-by-tape filled
+unfolding images choices rules reading numbers tapes happen replay shows start-after goes-by epoch-start chosen-by predictions
 everything = record {}
