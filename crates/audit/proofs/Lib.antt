@@ -8,9 +8,8 @@ pub mod EachChunk
 pub mod Pinning
 pub mod Pinned
 pub mod PinnedSkaldrift
--- `Worked` is a session that is one, so the theorems of `session` speak of something. `Sharp` and, by tape, `SharpTape` have for each premise a history
--- that breaks it and what then is false. `Computing` names what they compute with.
-pub mod Computing
-pub mod Worked
+-- `Replayed` computes what the theorems say of the worked runs of `session`. `Sharp` and, by tape, `SharpTape` have for each premise a run up to the step
+-- that breaks it, that step, and what then is false.
+pub mod Replayed
 pub mod Sharp
 pub mod SharpTape

@@ -10,7 +10,7 @@ use lib.ListN.{length, getD}
 use Rattle.region.specs.declared.Answer.{Answer}
 use Rattle.region.specs.declared.Answer.the-variants as answer
 use Rattle.region.proofs.AnswerLaws.{refusal-not-done, left}
-use Rattle.pieces.specs.AsyncSpec.{Write, AsyncView, committed, flush-writes-selective, no-outstanding-writes}
+use Rattle.pieces.specs.AsyncSpec.{Write, AsyncView, committed, flush-writes-selective}
 use Rattle.cuts.specs.Prophecy.{prophecy}
 use Rattle.desk.specs.Desk.{Desk, chunk-size, view}
 use Rattle.desk.proofs.Views.{writes-counted}
@@ -24,7 +24,7 @@ use Rattle.tape.specs.Write.{TapeWrites}
 use Rattle.tape.specs.Flush.{TapeFlushes}
 use Rattle.tape.specs.Cut.{TapeCuts}
 use Rattle.tape.proofs.NumberLaws.{ending-done}
-use Rattle.tape.proofs.Steps.{StepOfEnding, step-of-write, step-of-flush, step-of-cut}
+use Rattle.tape.proofs.Steps.{step-of-write, step-of-flush, step-of-cut}
 use Rattle.session.specs.History.{Event, nothing, written, flushed, cut-by, reopened, History, opening, _then_, if-answered, if-cut, rows-there, happen, replay}
 use Rattle.session.specs.Run as run
 use Rattle.session.specs.Run.{Step, Run}
@@ -183,7 +183,7 @@ module _ (sheet tape : List ℕ) where
           chosen = (
             before .chosen,
             subst (λ (a : ℕ). goes-by tape (replay (chunk-size d) image h) a e) (before .start-told)
-            (subst (λ (v : AsyncView). goes-by tape v start e) (i .replayed) (f .goes)),
+                (subst (λ (v : AsyncView). goes-by tape v start e) (i .replayed) (f .goes)),
           );
           shown-told =
               ap₂ (λ (a b : List (List ℕ)). a ++ b)

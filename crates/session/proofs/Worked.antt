@@ -1,7 +1,7 @@
 -- Sessions that are sessions: one history with every kind of step, and one by tape with every kind of step by tape, each promise kept to the byte by
 -- computation. So the theorems speak of something, and no step is too narrow to be taken. The sheet says that byte 8 is byte 9. Assumes nothing.
 use Prim.Native.Nat.{ℕ}
-use mathlib.Core.Path.{_≡_, refl}
+use mathlib.Core.Path.{refl}
 use mathlib.Core.List.{List, [], _∷_}
 use lib.ListN.{replicate, set}
 use denote.Ref.{RefT}
@@ -10,7 +10,7 @@ use Rattle.region.specs.declared.Answer.the-variants.{Done, Refused}
 use Rattle.region.specs.declared.Refusal.the-variants.{BadState, OutOfRange}
 use Rattle.pieces.specs.AsyncSpec.{Write, write-of}
 use Rattle.desk.specs.State.{record-of, appended, emptied, fresh}
-use Rattle.desk.specs.Desk.{Desk, desk, chunk-size}
+use Rattle.desk.specs.Desk.{Desk, desk}
 use Rattle.desk.specs.declared.state.State.{State}
 use Rattle.writelog.specs.Write.{Writes}
 use Rattle.writelog.specs.Read.{Fills, HandsBack}
