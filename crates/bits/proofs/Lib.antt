@@ -1,3 +1,4 @@
--- `Window` takes a field through a run of whole bytes, `Reading` has the laws of the readers.
+-- `Window` takes a field through a run of whole bytes, `Reading` has the laws of the readers, `Spelled` ties them to bits that are written out.
 pub mod Window
 pub mod Reading
+pub mod Spelled

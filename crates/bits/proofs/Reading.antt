@@ -38,21 +38,21 @@ took n s at told e = back (read-field n s at) ∙ ap (λ (z : Field). field-of z
     back (got value next) = refl
 
 -- A field of n bits is below 2 ^ n.
-field-lt : (s : List ℕ) (at n : ℕ) → field s at n < 2 ^ n
+pub field-lt : (s : List ℕ) (at n : ℕ) → field s at n < 2 ^ n
 unfolding field
 field-lt s at zero = omega arith
 field-lt s at (suc n) =
     let double : 2 ^ suc n ≡ 2 ^ n * 2 = ap (λ (k : ℕ). 2 ^ k) (sym (add-one n)) ∙ pow-add 2 n 1 in
     omega (arith, double, field-lt s at n)
 
-only-if-got : {A : Type 0} (b : Bool) (f : Found A) {a : A} {next : ℕ} → only-if b f ≡ got a next → f ≡ got a next
-only-if-got true f e = e
-only-if-got false f e = cc
+pub only-if-got : {A : Type 0} (b : Bool) (f : Found A) {a : A} {next : ℕ} → only-if b f ≡ got a next → (b ≡ true) × (f ≡ got a next)
+only-if-got true f e = (refl, e)
+only-if-got false f e = (cc, cc)
 
 pub field-got-lt : (n : ℕ) (s : List ℕ) (at : ℕ) {v next : ℕ} → read-field n s at ≡ got v next → v < 2 ^ n
 unfolding read-field
 field-got-lt n s at {v} {next} e =
-    let read : _≡_ {A = Found ℕ} (got (field s at n) (at + n)) (got v next) = only-if-got (leb (at + n) (bit-count s)) (got (field s at n) (at + n)) e in
+    let read : _≡_ {A = Found ℕ} (got (field s at n) (at + n)) (got v next) = only-if-got (leb (at + n) (bit-count s)) (got (field s at n) (at + n)) e .1 in
     let same-value : field s at n ≡ v = cc in
     rw same-value at (field-lt s at n)
 
@@ -74,3 +74,22 @@ took-pair m n s at k told e = first (read-field m s at) ∙ ap (λ (p : Pair). o
         ≡ on-pair (pair-told (on-got f (λ a next. on-got (read-field n s next) (λ b end. got (a, b) end)))) k
     first malformed = refl
     first (got a next) = second a (read-field n s next)
+
+-- What is got, if anything is, has P, with the place behind it.
+
+abbrev pub Gets : {A : Type 0} → (A → ℕ → Type 0) → Found A → Type 0
+Gets P malformed = Unit
+Gets P (got a next) = P a next
+
+pub then-gets : {A B : Type 0} (P : A → ℕ → Type 0) (Q : B → ℕ → Type 0) (f : Found A) (g : A → ℕ → Found B)
+    → Gets P f → ((a : A) (next : ℕ) → P a next → Gets Q (g a next)) → Gets Q (on-got f g)
+then-gets P Q malformed g p q = tt
+then-gets P Q (got a next) g p q = q a next p
+
+pub gets-as : {A : Type 0} (P : A → ℕ → Type 0) (f : Found A) → ((a : A) (next : ℕ) → f ≡ got a next → P a next) → Gets P f
+gets-as P malformed p = tt
+gets-as P (got a next) p = p a next refl
+
+pub only-if-gets : {A : Type 0} (P : A → ℕ → Type 0) (b : Bool) (f : Found A) → (b ≡ true → Gets P f) → Gets P (only-if b f)
+only-if-gets P true f p = p refl
+only-if-gets P false f p = tt

@@ -1,80 +1,41 @@
 -- The levels of a reader are document 01's depth, exactly: what a reader of d levels reads is at most d deep, and whatever a reader of more
 -- levels reads that is at most d deep, a reader of d levels reads too. Assumes nothing.
-use mathlib.Core.Path.{_≡_, refl, ap, _∙_, subst}
+use mathlib.Core.Path.{_≡_, refl, _∙_, subst}
 use mathlib.Core.Logic.{_↔_}
-use mathlib.Core.Bool.{Bool, true, false}
 use mathlib.Core.List.{List}
-use mathlib.Core.Option.{some}
 use Prim.Native.Nat.{ℕ, zero, suc, _≤_}
 use native.Mathlib.Omega.{arith}
-use lib.ListN.{length}
-use lib.Dec.{leb, eqb}
-use Rattle.bits.specs.Bits.{Found, malformed, got, on-got, only-if, Reader, read-field}
-use Rattle.sheet.specs.Sheet.{Rule, clause, group, Rules, cons, depth, deepest, Entry, one, many, max-depth, max-bytes, edition-bits, read-entry, read-members, read-rest, read-rule, the-edition, filling, read-edition, read-filling, read-whole, read-sheet, rule-of}
-
--- what is got, if anything is, has P
-abbrev Gets : {A : Type 0} → (A → Type 0) → Found A → Type 0
-Gets P malformed = Unit
-Gets P (got a next) = P a
-
-then-gets : {A B : Type 0} (P : A → Type 0) (Q : B → Type 0) (f : Found A) (g : A → ℕ → Found B)
-    → Gets P f → ((a : A) (next : ℕ) → P a → Gets Q (g a next)) → Gets Q (on-got f g)
-then-gets P Q malformed g p q = tt
-then-gets P Q (got a next) g p q = q a next p
-
-anything : {A : Type 0} (f : Found A) → Gets (λ a. Unit) f
-anything malformed = tt
-anything (got a next) = tt
-
-only-if-gets : {A : Type 0} (P : A → Type 0) (b : Bool) (f : Found A) → Gets P f → Gets P (only-if b f)
-only-if-gets P true f p = p
-only-if-gets P false f p = tt
+use Rattle.bits.specs.Bits.{Found, malformed, got, on-got, Reader}
+use Rattle.bits.proofs.Reading.{Gets, then-gets, gets-as}
+use Rattle.sheet.specs.Sheet.{Rule, clause, group, Rules, cons, depth, deepest, Entry, one, many, read-entry, read-members, read-rest, read-rule}
 
 module _ (s : List ℕ) where
-  shallow-members : (d : ℕ) (member : Reader Rule) → ((at : ℕ) → Gets (λ r. depth r ≤ d) (member s at))
-      → (n at : ℕ) → Gets (λ ms. deepest ms ≤ d) (read-members n member s at)
+  shallow-members : (d : ℕ) (member : Reader Rule) → ((at : ℕ) → Gets (λ r next. depth r ≤ d) (member s at))
+      → (n at : ℕ) → Gets (λ ms next. deepest ms ≤ d) (read-members n member s at)
   unfolding read-members depth
   shallow-members d member shallow zero at = omega arith
   shallow-members d member shallow (suc n) at =
-      then-gets (λ r. depth r ≤ d) (λ ms. deepest ms ≤ d) (member s at) _ (shallow at) λ r next p.
-      then-gets (λ ms. deepest ms ≤ d) (λ ms. deepest ms ≤ d) (read-members n member s next) _ (shallow-members d member shallow n next) λ ms end q.
+      then-gets (λ r next. depth r ≤ d) (λ ms next. deepest ms ≤ d) (member s at) _ (shallow at) λ r next p.
+      then-gets (λ ms next. deepest ms ≤ d) (λ ms next. deepest ms ≤ d) (read-members n member s next) _ (shallow-members d member shallow n next) λ ms end q.
       omega arith
 
-  shallow-rest : (d : ℕ) (member : Reader Rule) → ((at : ℕ) → Gets (λ r. depth r ≤ d) (member s at))
-      → (e : Entry) (at : ℕ) → Gets (λ r. depth r ≤ suc d) (read-rest member e s at)
+  shallow-rest : (d : ℕ) (member : Reader Rule) → ((at : ℕ) → Gets (λ r next. depth r ≤ d) (member s at))
+      → (e : Entry) (at : ℕ) → Gets (λ r next. depth r ≤ suc d) (read-rest member e s at)
   unfolding read-rest depth
   shallow-rest d member shallow (one c) at = omega arith
   shallow-rest d member shallow (many k n) at =
-      then-gets (λ ms. deepest ms ≤ d) (λ r. depth r ≤ suc d) (read-members n member s at) _ (shallow-members d member shallow n at) λ ms end p.
+      then-gets (λ ms next. deepest ms ≤ d) (λ r next. depth r ≤ suc d) (read-members n member s at) _ (shallow-members d member shallow n at) λ ms end p.
       omega arith
 
-  shallow : (d at : ℕ) → Gets (λ r. depth r ≤ d) (read-rule d s at)
+  shallow : (d at : ℕ) → Gets (λ r next. depth r ≤ d) (read-rule d s at)
   unfolding read-rule
   shallow zero at = tt
   shallow (suc d) at =
-      then-gets (λ e. Unit) (λ r. depth r ≤ suc d) (read-entry s at) _ (anything (read-entry s at)) λ e next p.
+      then-gets (λ e next. Unit) (λ r next. depth r ≤ suc d) (read-entry s at) _ (gets-as (λ e next. Unit) (read-entry s at) (λ e next read. tt)) λ e next p.
       shallow-rest d (read-rule d) (shallow d) e next
 
-some-gets : (P : Rule → Type 0) (f : Found Rule) {r : Rule} → Gets P f → rule-of f ≡ some r → P r
-some-gets P malformed p e = absurd (let z : _≡_ {A = ℕ} 0 1 = cc in omega arith)
-some-gets P (got q next) {r} p e = let same-rule : q ≡ r = cc in subst P same-rule p
-
-read-is-shallow : (s : List ℕ) (d at : ℕ) {r : Rule} {next : ℕ} → read-rule d s at ≡ got r next → depth r ≤ d
-read-is-shallow s d at e = some-gets (λ r. depth r ≤ d) (read-rule d s at) (shallow s d at) (ap (λ (f : Found Rule). rule-of f) e)
-
-shallow-whole : (s : List ℕ) (at : ℕ) → Gets (λ r. depth r ≤ max-depth) (read-whole s at)
-unfolding read-whole read-edition read-filling
-shallow-whole s at =
-    then-gets (λ e. Unit) (λ r. depth r ≤ max-depth) (read-field edition-bits s at) _ (anything (read-field edition-bits s at)) λ e start p.
-    then-gets (λ r. depth r ≤ max-depth) (λ r. depth r ≤ max-depth) (read-edition e s start) _
-    (only-if-gets (λ r. depth r ≤ max-depth) (eqb e the-edition) (read-rule max-depth s start) (shallow s max-depth start)) λ r end q.
-    only-if-gets (λ r. depth r ≤ max-depth) (filling s end) (got r end) q
-
-pub read-at-most : (s : List ℕ) {r : Rule} → read-sheet s ≡ some r → depth r ≤ max-depth
-unfolding read-sheet
-read-at-most s =
-    some-gets (λ r. depth r ≤ max-depth) (only-if (leb (length s) max-bytes) (read-whole s 0))
-    (only-if-gets (λ r. depth r ≤ max-depth) (leb (length s) max-bytes) (read-whole s 0) (shallow-whole s 0))
+pub read-is-shallow : (s : List ℕ) (d at : ℕ) {r : Rule} {next : ℕ} → read-rule d s at ≡ got r next → depth r ≤ d
+read-is-shallow s d at e = subst (Gets (λ r next. depth r ≤ d)) e (shallow s d at)
 
 -- The other way round: g has what f has, if that is at most d by a measure.
 abbrev Keeps : {A : Type 0} (measure : A → ℕ) (d : ℕ) (f g : Found A) → Type 0

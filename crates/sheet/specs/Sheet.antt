@@ -87,7 +87,7 @@ unfoldable mutual
   members-hold (cons r rs) k before after = join k (holds r before after) (members-hold rs k before after)
 
 -- "Depth: a clause or empty group is 1, another group 1 + its deepest member". Reading counts levels instead, which is the same:
--- `proofs/Depth.antt` has `levels-are-depth`, and `read-at-most` for a whole sheet.
+-- `proofs/Depth.antt` has `levels-are-depth`.
 unfoldable mutual
   pub depth : Rule → ℕ
   depth (clause c) = 1
