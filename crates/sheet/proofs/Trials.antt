@@ -1,12 +1,14 @@
--- Document 01's four sheets, read and judged; and the borders of each reason for refusal 5, one side and the other. One table, one proof:
--- antt computes the definitions of `Sheet` on each row. Assumes nothing.
+-- Document 01's four sheets, read, written and judged; and the borders of each reason for refusal 5, one side and the other. One table, one proof:
+-- antt computes the definitions of `Sheet` and `Format` on each row. Assumes nothing.
 use mathlib.Core.Path.{_≡_, refl}
 use mathlib.Core.List.{List, [], _∷_, map}
-use mathlib.Core.Option.{Option, some}
+use mathlib.Core.Option.{some}
 use Prim.Native.Nat.{ℕ}
 use lib.ListN.{replicate, set}
 use Rattle.bits.specs.Bits.{field, read-field}
+use Rattle.bits.specs.Binary.{binary, number-at, bytes-from, bytes-of}
 use Rattle.sheet.specs.Sheet.{Rule, clause, group, nil, cons, range, same, all, any, clause-holds, empty-holds, join, holds, read-tagged, read-entry, read-members, read-rest, read-rule, read-edition, filling, read-filling, read-whole, read-sheet, well-formed, obeys, judged}
+use Rattle.sheet.specs.Format.{entry-bits, rule-bits, sheet-bits, sheet-of}
 use Rattle.sheet.specs.declared.Judged.{Judged}
 use Rattle.sheet.specs.declared.Judged.the-variants.{Malformed, Obeys, Breaks}
 
@@ -26,14 +28,18 @@ three-is-11-or-22 = 0x1C ∷ 0x20 ∷ 0x00 ∷ 0x0C ∷ 0x44 ∷ 0x44 ∷ 0x00 �
 abbrev the-four : List (List ℕ)
 the-four = always ∷ never ∷ seven-is-eight ∷ three-is-11-or-22 ∷ []
 
-abbrev their-rules : List (Option Rule)
+abbrev their-rules : List Rule
 their-rules =
-    some (group all nil) ∷ some (group any nil) ∷ some (clause (same 7 8))
-    ∷ some (group any (cons (clause (range 3 0x11 0x11)) (cons (clause (range 3 0x22 0x22)) nil))) ∷ []
+    group all nil ∷ group any nil ∷ clause (same 7 8)
+    ∷ group any (cons (clause (range 3 0x11 0x11)) (cons (clause (range 3 0x22 0x22)) nil)) ∷ []
 
-the-four-are-read : map read-sheet the-four ≡ their-rules
+the-four-are-read : map read-sheet the-four ≡ map some their-rules
 unfolding field read-field read-tagged read-entry read-members read-rest read-rule read-edition filling read-filling read-whole read-sheet
 the-four-are-read = refl
+
+the-four-are-written : map sheet-of their-rules ≡ the-four
+unfolding binary number-at bytes-from bytes-of entry-bits rule-bits sheet-bits sheet-of
+the-four-are-written = refl
 
 -- A sheet and an image, and what judging answers.
 record Trial : Type 0 where

@@ -5,7 +5,7 @@ use mathlib.Core.Path.{_≡_}
 use mathlib.Core.List.{List, [], _++_}
 use lib.ListN.{length, replicate}
 use Rattle.bits.specs.Bits.{byte-bits}
-use Rattle.bits.specs.Binary.{binary, bits-of}
+use Rattle.bits.specs.Binary.{binary, bits-of, bytes-of}
 use Rattle.sheet.specs.Sheet.{max-bytes, max-depth, edition-bits, the-edition, tag-bits, address-bits, count-bits, range, same, Kind, all, any, Entry, one, many, Rule, clause, group, Rules, nil, cons, depth}
 
 -- "A rule starts with a 2-bit tag."
@@ -71,3 +71,7 @@ pub record Says (sheet : List ℕ) (r : Rule) : Type 0 where
   pub zeros : ℕ
   pub few : zeros < byte-bits
   pub written : bits-of sheet ≡ sheet-bits r ++ replicate zeros 0
+
+-- The rule's sheet.
+unfoldable pub sheet-of : Rule → List ℕ
+sheet-of r = bytes-of (sheet-bits r)
