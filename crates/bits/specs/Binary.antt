@@ -1,4 +1,4 @@
--- Numbers and bytes written out as bits, each 0 or 1, the most significant first. Nothing here reads; reading is the way back.
+-- Numbers and bytes written out as bits, each 0 or 1, the most significant first, and bits packed into bytes. No reader has a part in it.
 use Prim.Native.Nat.{ℕ, zero, suc, _+_, _-_, _*_, _/_, _%_, _^_, _<_}
 use mathlib.Core.List.{List, [], _∷_, _++_}
 use lib.ListN.{length, getD}
