@@ -1,18 +1,20 @@
 -- `main_first_time` of power_sound_t.rs, which promises nothing: a session under the example's sheet has the example's history, an opening and in each round
 -- four admitted writes and two flushes, and ends with the image and the log buffer that `Runs` promises; so what the session theorem says holds after
--- every one of these calls. That `run` makes just these calls is its text. Assumes nothing.
+-- every one of these calls. That `run` makes just these calls is its text; that it ends as they do is `ends-alike`. Assumes nothing.
 use Prim.Native.Nat.{ℕ, zero, suc, _^_, _<_}
 use native.Mathlib.Numerals.{add-one}
 use native.Mathlib.Omega.{arith}
-use mathlib.Core.Path.{_≡_, refl, sym, ap₂, subst⁻¹, _∙_}
-use mathlib.Core.List.{List}
+use mathlib.Core.Path.{_≡_, refl, sym, ap, ap₂, subst⁻¹, _∙_}
+use mathlib.Core.List.{List, []}
 use lib.ListN.{length}
 use Rattle.region.specs.declared.Answer.the-variants as answer
 use Rattle.region.proofs.AnswerLaws.{done-changed, changed}
 use Rattle.bits.specs.Bits.{byte-bits}
+use Rattle.pieces.specs.AsyncSpec.{AsyncView}
+use Rattle.cuts.proofs.Flush.{flush-leaves-the-read-image}
 use Rattle.sheet.specs.Sheet.{obeys}
 use Rattle.desk.specs.State.{fresh}
-use Rattle.desk.specs.Desk.{Desk, desk}
+use Rattle.desk.specs.Desk.{Desk, desk, chunk-size, view}
 use Rattle.desk.specs.declared.state.State.{State}
 use Rattle.desk.proofs.Soundness.{facts-sound}
 use Rattle.writelog.proofs.FlushLaws.{flushes-done}
@@ -29,10 +31,15 @@ use Rattle.rounds.proofs.SheetLaws.{app-sheet-formed, sheet-says-valid}
 use Rattle.rounds.proofs.StepLaws.{once-admissible, once, twice-admissible, twice, both-written, logged-both, pair-goes, first-value, second-value}
 use Rattle.rounds.proofs.StepLaws.{under-after, under-turned, goes-on}
 use Rattle.example.proofs.RepeatLaws.{repeats-none, repeats-more}
-use Rattle.session.specs.History.{History, opening, _then_, written, flushed}
+use Rattle.boundary.specs.Lent.{Lent, desk-of, lent-of}
+use Rattle.boundary.specs.Example.{SkaldriftRun}
+use Rattle.session.specs.History.{History, opening, _then_, written, flushed, happen, replay}
 use Rattle.session.specs.Run.{Run, opened, _and_, gate, flush, throughout}
 use Rattle.session.specs.Theorem.{Session}
-use Rattle.session.proofs.Theorem.{session-throughout}
+use Rattle.session.proofs.Theorem.{session, session-throughout}
+use Rattle.linked.specs.Calls.{Calls}
+use Rattle.linked.proofs.Runs.{linked-session}
+use Rattle.linked.proofs.Linking.{run-is-calls}
 
 -- the history of a pair of writes, flushed, and of the rounds
 abbrev pub pair-of : (addr first second : ℕ) → History → History
@@ -44,6 +51,12 @@ round-of addr val0 val1 h = pair-of addr val1 val0 (pair-of addr val0 val1 h)
 pub rounds-of : (addr val0 val1 rounds : ℕ) → History
 rounds-of addr val0 val1 zero = opening
 rounds-of addr val0 val1 (suc n) = round-of addr val0 val1 (rounds-of addr val0 val1 n)
+
+-- the last call of a round is a flush
+rounds-settle : (C : ℕ) (image : List ℕ) (addr val0 val1 rounds : ℕ) → replay C image (rounds-of addr val0 val1 rounds) .outstanding-writes ≡ []
+unfolding rounds-of replay happen
+rounds-settle C image addr val0 val1 zero = refl
+rounds-settle C image addr val0 val1 (suc n) = ap (λ (v : AsyncView). v .outstanding-writes) (flush-leaves-the-read-image _)
 
 module _ (sheet opened-image : List ℕ) where
   -- a session that goes on with this history, after which the two values have been written and flushed
@@ -134,3 +147,25 @@ module _ (image log work : List ℕ) (addr val0 val1 rounds : ℕ) (byte0 : val0
   -- the three sentences of demand 3, after the opening and after every write and flush of the rounds
   pub first-time-holds : throughout sheet (Session sheet image) (first-time-is-a-run .1)
   first-time-holds = session-throughout sheet image (first-time-is-a-run .1)
+
+-- skaldrift_run, and a session of linked calls that makes its calls, end alike.
+module _ (image log work : List ℕ) (addr val0 val1 rounds : ℕ) (byte0 : val0 < 2 ^ byte-bits) (byte1 : val1 < 2 ^ byte-bits)
+    {image′ log′ work′ : List ℕ} (p : SkaldriftRun image log work addr val0 val1 rounds 0 image′ log′ work′) where
+  its-run : (st : State) × Run (app-sheet addr val0 val1) image (rounds-of addr val0 val1 rounds) (desk image′ st log′)
+  its-run =
+      first-time-is-a-run image log work addr val0 val1 rounds byte0 byte1
+      (record { answers = p .answers; image-after = p .image-after; log-after = p .log-after; work-after = p .work-after })
+
+  -- There is such a session, which ends with the image and the log buffer that skaldrift_run leaves,
+  pub linked-first-time : (st : State) × Calls (app-sheet addr val0 val1) image (rounds-of addr val0 val1 rounds) (lent-of (desk image′ st log′))
+  linked-first-time = (its-run .0, run-is-calls (app-sheet addr val0 val1) (its-run .1))
+
+  -- and every one ends with that image and no write outstanding.
+  pub ends-alike : {m : Lent} → Calls (app-sheet addr val0 val1) image (rounds-of addr val0 val1 rounds) m
+      → (m .image ≡ image′) × (view (desk-of m) .outstanding-writes ≡ [])
+  ends-alike {m} calls =
+      let theirs = linked-session (app-sheet addr val0 val1) image calls in
+      let its = session (app-sheet addr val0 val1) image (its-run .1) in (
+        theirs .image-is-the-replay ∙ sym (its .image-is-the-replay),
+        theirs .outstanding-are-the-replay ∙ rounds-settle (chunk-size (desk-of m)) image addr val0 val1 rounds,
+      )

@@ -45,7 +45,7 @@ pub answer-event : (a : Answer) (e : Event) {n : ℕ} → answer-number a ≡ n 
 answer-event answer.Done e same = done-changed _ (sym same)
 answer-event (answer.Refused why) e same = refused-left why _ (sym same)
 
-verdict-event : (v : Verdict) (e : Event) {n : ℕ} → verdict-report v .number ≡ n → if-admitted v e ≡ if-0 n e
+pub verdict-event : (v : Verdict) (e : Event) {n : ℕ} → verdict-report v .number ≡ n → if-admitted v e ≡ if-0 n e
 verdict-event (verdict.Admitted k) e same = done-changed _ (sym same)
 verdict-event (verdict.Denied m) e same = ap (λ (n : ℕ). if-0 n e) same
 verdict-event (verdict.Refused why) e same = refused-left why _ (sym same)
