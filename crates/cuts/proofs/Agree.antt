@@ -7,9 +7,10 @@ use lib.ListN.{length}
 use lib.Seq.{ext-getD}
 use Rattle.region.specs.Pmemspec.{chunk-corresponds}
 use Rattle.pieces.specs.AsyncSpec.{Write, AsyncView, flush-writes-selective, flush-selective, size-to-chunks}
+use Rattle.pieces.proofs.Touched.{chunk-below}
 use Rattle.cuts.specs.Bits.{write-at, row-bit-at, agree-on-touched, view-chunks}
 use Rattle.cuts.proofs.Lengths.{length-flush-writes-selective}
-use Rattle.cuts.proofs.Basics.{chunk-below, covered-is-touched}
+use Rattle.cuts.proofs.Basics.{covered-is-touched}
 use Rattle.cuts.proofs.Column.{column-alone}
 
 module _ (C : ℕ) (C⁺ : 0 < C) where

@@ -6,9 +6,10 @@ use mathlib.Core.List.{List, [], _∷_}
 use lib.ListN.{length, getD, drop}
 use lib.Seq.{ext-getD}
 use Rattle.pieces.specs.AsyncSpec.{Write, AsyncView, apply-write, apply-write-selective, flush-writes, flush-writes-selective, flush, flush-selective, readable}
+use Rattle.pieces.proofs.Touched.{chunk-below}
 use Rattle.cuts.specs.Bits.{write-at, row-bit-at, covers, keeps-all, view-chunks}
 use Rattle.cuts.proofs.Lengths.{length-apply-write, length-apply-write-selective}
-use Rattle.cuts.proofs.Basics.{getD-tail, chunk-below, covered-is-touched}
+use Rattle.cuts.proofs.Basics.{getD-tail, covered-is-touched}
 use Rattle.cuts.proofs.Column.{byte-of-write, byte-of-selective}
 
 emptied : (s : List ℕ) (ws : List Write) → flush-writes s ws ≡ record { state-at-last-flush = (flush-writes s ws) .state-at-last-flush; outstanding-writes = [] }

@@ -11,14 +11,9 @@ use Rattle.pieces.specs.AsyncSpec.{Write, addr-to-chunk}
 use Rattle.pieces.specs.Choice.{touched, points}
 use Rattle.pieces.specs.Rows.{set-bits}
 use Rattle.pieces.specs.Kept.{kept, kept-of}
-use Rattle.pieces.proofs.ByteBits.{set-bits-le, set-bits-agree}
+use Rattle.pieces.proofs.ByteBits.{set-bits-le, set-bits-agree, all-set-bits}
 use Rattle.cuts.specs.Bits.{write-at, row-bit-at, touches-chunk}
 use Rattle.cuts.proofs.Basics.{getD-tail}
-
-set-bits-all : (from n : ℕ) → set-bits (λ c. true) from n ≡ n
-unfolding set-bits
-set-bits-all from zero = refl
-set-bits-all from (suc n) = rw (set-bits-all (suc from) n) (omega arith)
 
 module _ (C : ℕ) where
   pub kept-at-most-points : (ws : List Write) (rows : List (List Bool)) → kept C ws rows ≤ points C ws
@@ -42,5 +37,5 @@ module _ (C : ℕ) where
   kept-of-all-touched [] rows a = refl
   kept-of-all-touched (w ∷ ws) rows a =
       ap₂ (_+_)
-      (set-bits-agree _ (λ c. true) _ _ (λ c l h. a 0 c (inside-in (addr-to-chunk C (w .addr)) (touched C (w .addr) (length (w .bytes))) c l h)) ∙ set-bits-all _ _)
+      (all-set-bits _ _ _ (λ c l h. a 0 c (inside-in (addr-to-chunk C (w .addr)) (touched C (w .addr) (length (w .bytes))) c l h)))
       (kept-of-all-touched ws (drop 1 rows) (λ j c k. rw (getD-tail rows j []) (a (suc j) c k)))

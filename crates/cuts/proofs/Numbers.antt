@@ -12,9 +12,10 @@ use lib.ListN.{length, getD, drop, take}
 use Rattle.region.proofs.Tab.{getD-tab}
 use Rattle.pieces.specs.AsyncSpec.{Write, AsyncView, addr-to-chunk, flush-selective, committed, readable, can-crash}
 use Rattle.pieces.specs.Choice.{touched, points, row-of, rows-of}
+use Rattle.pieces.proofs.Touched.{inside-bounds}
 use Rattle.cuts.specs.Bits.{write-at, touches-chunk, agree-on-touched, view-chunks}
 use Rattle.cuts.specs.Number.{number-of, choice-image, choice-points}
-use Rattle.cuts.proofs.Basics.{inside-bounds, getD-tail}
+use Rattle.cuts.proofs.Basics.{getD-tail}
 use Rattle.cuts.proofs.Digits.{bit-of-bits-below, bits-below-high, bits-below-lt, bit-of-ones}
 use Rattle.cuts.proofs.Shape.{shaped-rows-crash}
 use Rattle.cuts.proofs.Agree.{untouched-bits-change-nothing}

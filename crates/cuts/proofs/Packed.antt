@@ -11,14 +11,10 @@ use lib.Seq.{ext-getD, getD-append-add}
 use Rattle.region.specs.Tab.{tab}
 use Rattle.region.proofs.Tab.{length-tab, getD-tab}
 use Rattle.pieces.specs.Choice.{keeps-point}
-use Rattle.pieces.specs.Rows.{byte-bits, row-bytes, row-bit, row-at, row-filled, set-bits}
+use Rattle.pieces.specs.Rows.{byte-bits, row-bytes, row-bit, row-at, row-filled}
+use Rattle.pieces.proofs.Filling.{filled-exactly}
 use Rattle.cuts.specs.Packed.{packed-byte, packed-row, are-bytes}
 use Rattle.cuts.proofs.Digits.{bit-of-bits-below, bits-below-lt}
-
-pub no-set-bits : (b : ℕ → Bool) (from n : ℕ) → ((c : ℕ) → from ≤ c → c < from + n → b c ≡ false) → set-bits b from n ≡ 0
-unfolding set-bits
-no-set-bits b from zero h = refl
-no-set-bits b from (suc n) h = rw (h from (omega arith) (omega arith), no-set-bits b (suc from) n (λ c l k. h c (omega arith) (omega arith)))
 
 bit-of-packed-byte : (row : List Bool) (c : ℕ) → keeps-point (packed-byte row (c / byte-bits)) (byte-bits - 1 - c % byte-bits) ≡ getD row c false
 unfolding packed-byte
@@ -59,14 +55,8 @@ module _ (K : ℕ) (before : List ℕ) (row : List Bool) (after : List ℕ) wher
         getD-tab (row-bit table (length before)) K c false k ∙ bit-of-packed-row c (omega arith))
 
     pub row-filled-packed : row-filled K table (length before) ≡ true
-    unfolding row-filled
     row-filled-packed =
-        rw
-        (no-set-bits
-        (row-bit table (length before))
-        K
-        (row-bytes K * byte-bits - K)
-        (λ c l h. bit-of-packed-row c (omega arith) ∙ List·getD-eq-default row false (omega arith)))
+        filled-exactly K table (length before) .1 (λ c l h. bit-of-packed-row c h ∙ List·getD-eq-default row false (omega arith))
 
 -- every byte of a packed row is one
 bytes-of-tab : (f : ℕ → ℕ) (n : ℕ) → ((i : ℕ) → f i < 2 ^ byte-bits) → are-bytes (tab f n)

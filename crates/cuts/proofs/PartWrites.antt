@@ -12,9 +12,9 @@ use Rattle.region.specs.Tab.{tab}
 use Rattle.region.specs.Pmemspec.{chunk-corresponds, can-result-from-partial-write}
 use Rattle.region.proofs.Tab.{length-tab, getD-tab}
 use Rattle.pieces.specs.AsyncSpec.{Write, apply-write, AsyncView, size-to-chunks, apply-write-selective, flush-selective, write, can-crash-as, can-crash}
+use Rattle.pieces.proofs.Touched.{chunk-below}
 use Rattle.cuts.specs.Bits.{covers, view-chunks}
 use Rattle.cuts.specs.Shape.{has-shape}
-use Rattle.cuts.proofs.Basics.{chunk-below}
 use Rattle.cuts.proofs.Lengths.{length-apply-write, length-apply-write-selective}
 use Rattle.cuts.proofs.Column.{byte-of-write, byte-of-selective}
 use Rattle.cuts.proofs.Shape.{shaped-rows-crash, crash-rows-shaped, shape-of-one-more, shape-of-one-less, last-row}

@@ -2,8 +2,10 @@
 use Prim.Native.Nat.{ℕ, zero, suc, _+_, _-_, _*_, _/_, _%_, _^_, _≤_, _<_}
 use native.Mathlib.Nat.{le-refl, mod-lt, add-zero, zero-add, add-assoc, suc-add, add-suc, zero-lt-suc, mod-one, one-mul, not-suc-le-zero, le-of-suc-le-suc}
 use native.Mathlib.Numerals.{add-one, one-add}
+use native.Mathlib.Decide.{ℕ-discrete}
 use native.Mathlib.Omega.{arith}
 use mathlib.Core.Path.{_≡_, refl, sym, ap, ap₂, _∙_}
+use mathlib.Core.Logic.{by-cases}
 use mathlib.Core.Bool.{Bool, true, false, cond}
 use mathlib.Core.List.{List}
 use lib.Dec.{eqb}
@@ -29,6 +31,28 @@ unfolding set-bits
 set-bits-agree b b′ from zero e = refl
 set-bits-agree b b′ from (suc n) e =
     ap₂ (λ (t : Bool) (m : ℕ). cond t 1 0 + m) (e from (omega arith) (omega arith)) (set-bits-agree b b′ (suc from) n (λ c l h. e c (omega arith) (omega arith)))
+
+-- no bit of a run is set exactly if their count is 0
+pub no-set-bits : (b : ℕ → Bool) (from n : ℕ) → ((c : ℕ) → from ≤ c → c < from + n → b c ≡ false) → set-bits b from n ≡ 0
+unfolding set-bits
+no-set-bits b from zero h = refl
+no-set-bits b from (suc n) h = rw (h from (omega arith) (omega arith), no-set-bits b (suc from) n (λ c l k. h c (omega arith) (omega arith)))
+
+pub none-is-set : (b : ℕ → Bool) (from n : ℕ) → set-bits b from n ≡ 0 → (c : ℕ) → from ≤ c → c < from + n → b c ≡ false
+unfolding set-bits
+none-is-set b from zero e c l h = absurd (omega arith)
+none-is-set b from (suc n) e c l h = by-cases (ℕ-discrete from c) (λ same. rw (sym same) (first (b from) e)) (λ other. none-is-set b (suc from) n (omega arith) c (omega arith) (omega arith))
+  where
+    first : (t : Bool) → cond t 1 0 + set-bits b (suc from) n ≡ 0 → t ≡ false
+    first true e = absurd (omega arith)
+    first false e = refl
+
+-- a run whose bits are all set counts as long as it is
+pub all-set-bits : (b : ℕ → Bool) (from n : ℕ) → ((c : ℕ) → from ≤ c → c < from + n → b c ≡ true) → set-bits b from n ≡ n
+unfolding set-bits
+all-set-bits b from zero h = refl
+all-set-bits b from (suc n) h =
+    rw (h from (omega arith) (omega arith), all-set-bits b (suc from) n (λ c l k. h c (omega arith) (omega arith))) (omega arith)
 
 -- no more bits are set than there are
 pub set-bits-le : (b : ℕ → Bool) (from n : ℕ) → set-bits b from n ≤ n
