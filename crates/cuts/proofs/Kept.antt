@@ -1,15 +1,13 @@
 -- The kept count: how it goes by the touched bits alone, and its two ends. Assumes nothing.
-use Prim.Native.Nat.{ℕ, zero, suc, _+_, _≤_}
+use Prim.Native.Nat.{ℕ, suc, _+_, _≤_}
 use native.Mathlib.Nat.{le-refl, add-le-add}
-use native.Mathlib.Omega.{arith}
-use mathlib.Core.Path.{_≡_, refl, ap₂, _∙_}
+use mathlib.Core.Path.{_≡_, refl, ap₂}
 use mathlib.Core.Bool.{Bool, true}
 use mathlib.Core.List.{List, [], _∷_}
 use lib.ListN.{length, drop}
 use Rattle.region.proofs.Tab.{inside-in}
 use Rattle.pieces.specs.AsyncSpec.{Write, addr-to-chunk}
 use Rattle.pieces.specs.Choice.{touched, points}
-use Rattle.pieces.specs.Rows.{set-bits}
 use Rattle.pieces.specs.Kept.{kept, kept-of}
 use Rattle.pieces.proofs.ByteBits.{set-bits-le, set-bits-agree, all-set-bits}
 use Rattle.cuts.specs.Bits.{write-at, row-bit-at, touches-chunk}

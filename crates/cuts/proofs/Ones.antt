@@ -5,7 +5,7 @@ use native.Mathlib.Omega.{arith}
 use mathlib.Core.Path.{_≡_, refl, sym, ap, _∙_}
 use mathlib.Core.Bool.{Bool, true, false, cond}
 use mathlib.Core.List.{List, [], _∷_}
-use lib.Dec.{eqb, lit<}
+use lib.Dec.{lit<}
 use lib.ListN.{length, getD, drop}
 use lib.Arith.{lt-one}
 use lib.Pow.{shr-lt}
@@ -17,7 +17,7 @@ use Rattle.pieces.specs.Rows.{set-bits}
 use Rattle.pieces.specs.Kept.{kept, kept-of}
 use Rattle.cuts.specs.Bits.{write-at, touches-chunk, view-chunks}
 use Rattle.cuts.specs.Number.{bits-below, number-of, choice-points}
-use Rattle.cuts.proofs.Digits.{shr-suc, bit-suc}
+use Rattle.cuts.proofs.Digits.{shr-suc, bit-suc, lowest-digit}
 use Rattle.cuts.proofs.Within.{touched-chunk-below}
 
 one-digit : (x : ℕ) (t : Bool) → ones (x * 2 + cond t 1 0) ≡ cond t 1 0 + ones x
@@ -36,11 +36,6 @@ pub kept-is-ones : (C : ℕ) (ws : List Write) (rows : List (List Bool)) → kep
 unfolding kept kept-of number-of ones
 kept-is-ones C [] rows = refl
 kept-is-ones C (w ∷ ws) rows = rw (kept-is-ones C ws (drop 1 rows)) (sym (ones-of-bits-below (number-of C ws (drop 1 rows)) _ _ _))
-
-lowest-digit : (x : ℕ) → x < 2 → cond (eqb x 1) 1 0 ≡ x
-lowest-digit zero h = refl
-lowest-digit (suc zero) h = refl
-lowest-digit (suc (suc x)) h = absurd (omega arith)
 
 -- a number is its lowest bits below the rest of it
 bits-of-number : (f : ℕ → Bool) (from n m : ℕ) → ((k : ℕ) → k < n → f (from + k) ≡ keeps-point m k) → bits-below (m / 2 ^ n) f from n ≡ m

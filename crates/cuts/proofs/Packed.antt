@@ -1,8 +1,8 @@
 -- A packed row, wherever it lies in a table, has the row's bits, zero filling, and only bytes. Assumes nothing.
-use Prim.Native.Nat.{ℕ, zero, suc, _+_, _-_, _*_, _/_, _%_, _^_, _≤_, _<_}
+use Prim.Native.Nat.{ℕ, zero, suc, _+_, _-_, _*_, _/_, _%_, _^_, _<_}
 use native.Mathlib.Decide.{decLt}
 use native.Mathlib.Omega.{arith}
-use mathlib.Core.Path.{_≡_, refl, sym, ap, _∙_}
+use mathlib.Core.Path.{_≡_, sym, ap, _∙_}
 use mathlib.Core.Bool.{Bool, true, false}
 use mathlib.Core.List.{List, [], _∷_, _++_}
 use lib.Dec.{lit<}
@@ -14,14 +14,13 @@ use Rattle.pieces.specs.Choice.{keeps-point}
 use Rattle.pieces.specs.Rows.{byte-bits, row-bytes, row-bit, row-at, row-filled}
 use Rattle.pieces.proofs.Filling.{filled-exactly}
 use Rattle.cuts.specs.Packed.{packed-byte, packed-row, are-bytes}
-use Rattle.cuts.proofs.Digits.{bit-of-bits-below, bits-below-lt}
+use Rattle.cuts.proofs.Digits.{bit-of-top-bit-first, top-bit-first-lt}
 
 bit-of-packed-byte : (row : List Bool) (c : ℕ) → keeps-point (packed-byte row (c / byte-bits)) (byte-bits - 1 - c % byte-bits) ≡ getD row c false
 unfolding packed-byte
 bit-of-packed-byte row c =
-    let e : c / 8 * 8 + (8 - 1 - (0 + (8 - 1 - c % 8))) ≡ c = omega arith in
-    bit-of-bits-below 0 (λ p. getD row (c / byte-bits * byte-bits + (byte-bits - 1 - p)) false) 0 byte-bits (byte-bits - 1 - c % byte-bits) (omega arith)
-    ∙ ap (λ x. getD row x false) e
+    let e : c / byte-bits * byte-bits + c % byte-bits ≡ c = omega arith in
+    bit-of-top-bit-first (λ i. getD row i false) (c / byte-bits * byte-bits) byte-bits (c % byte-bits) (omega arith) ∙ ap (λ i. getD row i false) e
 
 pub length-packed-row : (K : ℕ) (row : List Bool) → length (packed-row K row) ≡ row-bytes K
 unfolding packed-row
@@ -68,7 +67,7 @@ bytes-of-tab f n b i = go (decLt i n)
 
 pub bytes-of-packed-row : (K : ℕ) (row : List Bool) → are-bytes (packed-row K row)
 unfolding packed-row packed-byte
-bytes-of-packed-row K row = bytes-of-tab (packed-byte row) (row-bytes K) (λ k. bits-below-lt 0 _ 0 byte-bits 0 (lit< tt))
+bytes-of-packed-row K row = bytes-of-tab (packed-byte row) (row-bytes K) (λ k. top-bit-first-lt (λ c. getD row c false) (k * byte-bits) byte-bits)
 
 pub bytes-of-append : (xs ys : List ℕ) → are-bytes xs → are-bytes ys → are-bytes (xs ++ ys)
 bytes-of-append [] ys a b i = b i

@@ -1,15 +1,19 @@
 -- Rows packed as document 01's row table: chunk 0 in the top bit of the first byte, filled with zero bits to a whole byte, each row by itself.
-use Prim.Native.Nat.{ℕ, _+_, _-_, _*_, _^_, _<_}
-use mathlib.Core.Bool.{Bool, false}
+use Prim.Native.Nat.{ℕ, zero, suc, _+_, _*_, _^_, _<_}
+use mathlib.Core.Bool.{Bool, false, cond}
 use mathlib.Core.List.{List, [], _∷_, _++_}
 use lib.ListN.{getD}
 use Rattle.region.specs.Tab.{tab}
 use Rattle.pieces.specs.Rows.{byte-bits, row-bytes}
-use Rattle.cuts.specs.Number.{bits-below}
+
+-- the number whose n bits are b from, b (from + 1), .., most significant bit first
+unfoldable pub top-bit-first : (b : ℕ → Bool) (from n : ℕ) → ℕ
+top-bit-first b from zero = 0
+top-bit-first b from (suc n) = top-bit-first b from n * 2 + cond (b (from + n)) 1 0
 
 -- byte k of a row. A bit past the row's end is zero.
 unfoldable pub packed-byte : List Bool → ℕ → ℕ
-packed-byte row k = bits-below 0 (λ p. getD row (k * byte-bits + (byte-bits - 1 - p)) false) 0 byte-bits
+packed-byte row k = top-bit-first (λ c. getD row c false) (k * byte-bits) byte-bits
 
 unfoldable pub packed-row : ℕ → List Bool → List ℕ
 packed-row K row = tab (packed-byte row) (row-bytes K)

@@ -1,10 +1,10 @@
 -- The touched chunks in terms of bytes: a chunk is touched exactly if some byte of the write lies in it, and there are `touched` such chunks.
 -- Assumes nothing.
 use Prim.Native.Nat.{ℕ, zero, suc, _+_, _-_, _*_, _/_, _≤_, _<_}
-use native.Mathlib.Nat.{le-trans, le-antisymm, zero-add, le-div-iff-mul-le, div-mul-le-self, mul-div-cancel}
+use native.Mathlib.Nat.{le-trans, le-antisymm, le-div-iff-mul-le, div-mul-le-self, mul-div-cancel}
 use native.Mathlib.Decide.{decLt}
 use native.Mathlib.Omega.{arith}
-use mathlib.Core.Path.{_≡_, refl, sym, ap, ap₂, _∙_}
+use mathlib.Core.Path.{_≡_, sym, ap, ap₂, _∙_}
 use mathlib.Core.Logic.{_↔_, by-cases}
 use mathlib.Core.Bool.{true}
 use lib.Dec.{leb, ltb}
@@ -52,7 +52,7 @@ module _ (C : ℕ) (C⁺ : 0 < C) where
       let at = inside-bounds addr (suc n) i e in
       let low : addr / C ≤ i / C = chunk-mono (at .0) in
       let high : i / C ≤ (addr + n) / C = chunk-mono (omega arith) in
-      inside-in (addr / C) (suc ((addr + n) / C - addr / C)) (i / C) low (omega arith)
+      inside-in (addr / C) (touched C addr (suc n)) (i / C) low (omega arith)
 
   -- a touched chunk has a byte of the write: the chunk's first byte, or addr where the write starts behind that
   touched-has-a-byte : (addr n c : ℕ) → touches C addr n c ≡ true → (i : ℕ) × (inside addr n i ≡ true) × (addr-to-chunk C i ≡ c)
