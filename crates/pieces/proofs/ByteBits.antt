@@ -101,10 +101,7 @@ pub run-in-row : (table : List ℕ) (at c n : ℕ) → c % 8 + n ≤ 8
     → set-bits (row-bit table at) c n ≡ ones (getD table (at + c / 8) 0 / 2 ^ (8 - c % 8 - n) % 2 ^ n)
 run-in-row table at c n h =
     run-in-byte (row-bit table at) (getD table (at + c / 8) 0) c (c % 8) n h
-    (λ k g.
-    let q : (c + k) / 8 ≡ c / 8 = omega arith in
-    let r : (c + k) % 8 ≡ c % 8 + k = omega arith in
-    ap₂ (λ (i j : ℕ). eqb (getD table (at + i) 0 / 2 ^ (7 - j) % 2) 1) q r)
+    (λ k g. ap₂ (λ (i j : ℕ). eqb (getD table (at + i) 0 / 2 ^ j % 2) 1) (omega arith) (omega arith))
 
 -- a shift of 1 by at most 8 is a power
 pub one-shifted : (k : ℕ) → k ≤ 8 → (1 * 2 ^ k) % 2 ^ 32 ≡ 2 ^ k
