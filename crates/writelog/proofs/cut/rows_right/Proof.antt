@@ -16,6 +16,10 @@ use Rattle.writelog.proofs.cut.rows_right.Tie as tie
 width-is : (c : tie.After-row-bytes) → c .row-bytes .result ≡ row-bytes (size-to-chunks const-persistence-chunk-size (c .before .before .before .args .size))
 width-is c = c .row-bytes .ensures ∙ ap row-bytes (c .before .size-to-chunks .ensures)
 
+all-rows : (c : tie.After-row-bytes) → let a = c .before .before .before .args in
+    a .n * c .row-bytes .result ≡ a .n * row-bytes (size-to-chunks const-persistence-chunk-size (a .size))
+all-rows c = ap (λ (w : ℕ). c .before .before .before .args .n * w) (width-is c)
+
 mul-if1 : tie.Need-mul-if1
 mul-if1 c =
     let few : c .row-bytes .result ≤ image-limit = omega (arith, c .row-bytes .ensures, c .before .size-to-chunks .ensures) in
@@ -27,7 +31,7 @@ returns c =
     let row = c .before in
     let a = row .before .before .before .args in
     let K = size-to-chunks const-persistence-chunk-size (a .size) in
-    let other = ne-eqb (length (a .rows .now)) (a .n * row-bytes K) (λ e. c .if1 .taken (e ∙ ap (λ (w : ℕ). a .n * w) (sym (width-is row)))) in
+    let other = ne-eqb (length (a .rows .now)) (a .n * row-bytes K) (λ e. omega (arith, c .if1 .taken, all-rows row)) in
     sym (and-unless _ (rows-filled K (a .n) (a .rows .now) 0) other)
 
 rows-filled-requires : tie.Need-rows-filled-requires
@@ -43,7 +47,7 @@ returns-2 c =
     let row = c .before .before in
     let a = row .before .before .before .args in
     let K = size-to-chunks const-persistence-chunk-size (a .size) in
-    let same = eq-eqb (length (a .rows .now)) (a .n * row-bytes K) (c .before .if1 .left ∙ ap (λ (w : ℕ). a .n * w) (width-is row)) in
+    let same = eq-eqb (length (a .rows .now)) (a .n * row-bytes K) (omega (arith, c .before .if1 .left, all-rows row)) in
     c .rows-filled .ensures ∙ ap (λ (k : ℕ). rows-filled k (a .n) (a .rows .now) 0) (row .before .size-to-chunks .ensures)
     ∙ sym (and-when _ (rows-filled K (a .n) (a .rows .now) 0) same)
 
