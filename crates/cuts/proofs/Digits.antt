@@ -70,7 +70,7 @@ module _ (hi : ℕ) (f : ℕ → Bool) where
       let digit = digit-lt (f from) in
       rw suc-add (omega arith)
 
--- a number built with the top bit first has those bits, counted from the top, and no others
+-- a number built with the top bit first has those bits, counted from the top, and none above
 module _ (b : ℕ → Bool) (from : ℕ) where
   pub bit-of-top-bit-first : (n p : ℕ) → p < n → keeps-point (top-bit-first b from n) (n - 1 - p) ≡ b (from + p)
   unfolding top-bit-first
@@ -92,6 +92,7 @@ module _ (b : ℕ → Bool) (from : ℕ) where
       let digit = digit-lt (b (from + n)) in
       omega arith
 
+  -- and a number below 2 ^ n is built from its own n bits
   pub top-bit-first-of-number : (n x : ℕ) → x < 2 ^ n → ((p : ℕ) → p < n → b (from + p) ≡ keeps-point x (n - 1 - p)) → top-bit-first b from n ≡ x
   unfolding top-bit-first
   top-bit-first-of-number zero x h e = sym (lt-one h)

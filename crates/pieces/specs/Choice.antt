@@ -12,7 +12,7 @@ unfoldable pub touched : (C addr n : ℕ) → ℕ
 touched C addr zero = 0
 touched C addr (suc n) = suc (addr-to-chunk C (addr + n) - addr-to-chunk C addr)
 
--- the touched chunks are a run from the chunk of addr on
+-- the touched chunks are a run from the chunk of addr on: those that some byte of the write lies in (`proofs/Touched.antt`)
 abbrev pub touches : (C addr n c : ℕ) → Bool
 touches C addr n c = leb (addr-to-chunk C addr) c && ltb c (addr-to-chunk C addr + touched C addr n)
 

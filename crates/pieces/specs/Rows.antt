@@ -29,7 +29,7 @@ unfoldable pub set-bits : (ℕ → Bool) → (from n : ℕ) → ℕ
 set-bits b from zero = 0
 set-bits b from (suc n) = cond (b from) 1 0 + set-bits b (suc from) n
 
--- "filled with zero bits to a whole byte": no bit from K to the end of the row's last byte is set
+-- "filled with zero bits to a whole byte": no bit from K to the end of the row's last byte is set (`proofs/Filling.antt`)
 unfoldable pub row-filled : (K : ℕ) (table : List ℕ) (at : ℕ) → Bool
 row-filled K table at = eqb (set-bits (row-bit table at) K (row-bytes K * byte-bits - K)) 0
 
@@ -37,6 +37,7 @@ unfoldable pub rows-filled : (K n : ℕ) (table : List ℕ) (at : ℕ) → Bool
 rows-filled K zero table at = true
 rows-filled K (suc n) table at = row-filled K table at && rows-filled K n table (at + row-bytes K)
 
--- a right table for n writes and K chunks: of the right length, every row filled with zero bits. Any other is refusal 9.
+-- a right table for n writes and K chunks: of the right length, every row filled with zero bits. Any other is refusal 9. A right table of bytes is the
+-- packing of its rows, and every packing is right (`cuts`, `RightTables`).
 abbrev pub rows-right : (K n : ℕ) (table : List ℕ) → Bool
 rows-right K n table = eqb (length table) (n * row-bytes K) && rows-filled K n table 0
