@@ -14,6 +14,6 @@ pub filled-exactly : (K : ℕ) (table : List ℕ) (at : ℕ)
     → row-filled K table at ≡ true ↔ ((c : ℕ) → K ≤ c → c < row-bytes K * byte-bits → row-bit table at c ≡ false)
 unfolding row-filled
 filled-exactly K table at = (
-  (λ filled c l h. none-is-set (row-bit table at) K _ (eqb-true _ 0 filled) c l (omega arith)),
-  (λ zeros. eq-eqb _ 0 (no-set-bits (row-bit table at) K _ (λ c l h. zeros c l (omega arith)))),
+  (λ filled c l h. none-is-set (row-bit table at) K _ (eqb-true _ _ filled) c l (omega arith)),
+  (λ zeros. eq-eqb _ _ (no-set-bits (row-bit table at) K _ (λ c l h. zeros c l (omega arith)))),
 )
