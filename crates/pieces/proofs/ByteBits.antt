@@ -41,7 +41,10 @@ no-set-bits b from (suc n) h = rw (h from (omega arith) (omega arith), no-set-bi
 pub none-is-set : (b : ℕ → Bool) (from n : ℕ) → set-bits b from n ≡ 0 → (c : ℕ) → from ≤ c → c < from + n → b c ≡ false
 unfolding set-bits
 none-is-set b from zero e c l h = absurd (omega arith)
-none-is-set b from (suc n) e c l h = by-cases (ℕ-discrete from c) (λ same. rw (sym same) (first (b from) e)) (λ other. none-is-set b (suc from) n (omega arith) c (omega arith) (omega arith))
+none-is-set b from (suc n) e c l h =
+    by-cases (ℕ-discrete from c)
+    (λ same. rw (sym same) (first (b from) e))
+    (λ other. none-is-set b (suc from) n (omega arith) c (omega arith) (omega arith))
   where
     first : (t : Bool) → cond t 1 0 + set-bits b (suc from) n ≡ 0 → t ≡ false
     first true e = absurd (omega arith)
