@@ -1,13 +1,15 @@
 -- Refusal 1's test as five facts, which arithmetic reads, and what it means that there is room for a write. Assumes nothing.
 use Prim.Native.Nat.{ℕ, _+_, _≤_, _<_}
 use native.Mathlib.Omega.{arith}
-use mathlib.Core.Path.{_≡_, refl, sym, _∙_}
-use mathlib.Core.Bool.{Bool, true, false, cond}
-use lib.ListN.{length}
+use mathlib.Core.Path.{_≡_, refl, sym, ap, _∙_}
+use mathlib.Core.Bool.{Bool, true, false}
+use mathlib.Core.List.{[], _∷_}
+use lib.ListN.{length, getD}
 use borrow.Author.Tests.{le-leb, leb-true, eq-eqb, eqb-true}
 use Rattle.region.specs.Limits.{image-limit, writes-limit, log-limit}
+use Rattle.region.specs.Answer.{Report}
 use Rattle.region.proofs.Booleans.{cond-when, cond-unless, both, both-true}
-use Rattle.desk.specs.State.{log-records, together, records-inside, sound-for}
+use Rattle.desk.specs.State.{log-records, together, records-inside, sound-for, check-report, outstanding-report}
 use Rattle.desk.specs.Desk.{Desk}
 use Rattle.records.specs.declared.Record.{Record}
 use Rattle.desk.specs.declared.state.State.{State}
@@ -68,25 +70,26 @@ module _ (L : ℕ) (st : State) (log-length : ℕ) where
     pub facts : SoundFor L st log-length
     pub counted : used ≡ together (log-records st)
 
-  abbrev answer : Outstanding
-  answer = cond (sound-for L st log-length) (Bytes (together (log-records st))) Unsound
+  pub check-sound : sound-for L st log-length ≡ true → check-report L st log-length ≡ record { number = 0; values = together (log-records st) ∷ [] }
+  check-sound = cond-when (sound-for L st log-length) _ _
 
-  answer-when : sound-for L st log-length ≡ true → answer ≡ Bytes (together (log-records st))
-  answer-when = cond-when (sound-for L st log-length) (Bytes (together (log-records st))) Unsound
+  pub check-unsound : sound-for L st log-length ≡ false → check-report L st log-length ≡ record { number = 1; values = [] }
+  check-unsound = cond-unless (sound-for L st log-length) _ _
 
-  answer-unless : sound-for L st log-length ≡ false → answer ≡ Unsound
-  answer-unless = cond-unless (sound-for L st log-length) (Bytes (together (log-records st))) Unsound
+  module _ {r : Outstanding} (told : outstanding-report r ≡ check-report L st log-length) where
+    pub told-bytes : {used : ℕ} → r ≡ Bytes used → Told used
+    told-bytes {used} is = go (sound-for L st log-length) refl
+      where
+        here : record { number = 0; values = used ∷ [] } ≡ check-report L st log-length
+        here = sym (ap outstanding-report is) ∙ told
 
-  pub told-bytes : {r : Outstanding} {used : ℕ} → r ≡ answer → r ≡ Bytes used → Told used
-  told-bytes {r} {used} e b = go (sound-for L st log-length) refl
-    where
-      go : (t : Bool) → sound-for L st log-length ≡ t → Told used
-      go true s = let p : Bytes used ≡ Bytes (together (log-records st)) = sym b ∙ e ∙ answer-when s in record { good = s; facts = sound-facts s; counted = cc }
-      go false s = let p : Bytes used ≡ Unsound = sym b ∙ e ∙ answer-unless s in let z : _≡_ {A = ℕ} 0 1 = cc in absurd (omega arith)
+        go : (t : Bool) → sound-for L st log-length ≡ t → Told used
+        go true s = record { good = s; facts = sound-facts s; counted = ap (λ (x : Report). getD (x .values) 0 0) (here ∙ check-sound s) }
+        go false s = absurd (omega (arith, ap (λ (x : Report). x .number) (here ∙ check-unsound s)))
 
-  pub told-unsound : {r : Outstanding} → r ≡ answer → r ≡ Unsound → sound-for L st log-length ≡ false
-  told-unsound {r} e b = go (sound-for L st log-length) refl
-    where
-      go : (t : Bool) → sound-for L st log-length ≡ t → sound-for L st log-length ≡ false
-      go true s = let p : Unsound ≡ Bytes (together (log-records st)) = sym b ∙ e ∙ answer-when s in let z : _≡_ {A = ℕ} 0 1 = cc in absurd (omega arith)
-      go false s = s
+    pub told-unsound : r ≡ Unsound → sound-for L st log-length ≡ false
+    told-unsound is = go (sound-for L st log-length) refl
+      where
+        go : (t : Bool) → sound-for L st log-length ≡ t → sound-for L st log-length ≡ false
+        go true s = absurd (omega (arith, ap (λ (x : Report). x .number) (sym (ap outstanding-report is) ∙ told ∙ check-sound s)))
+        go false s = s

@@ -5,11 +5,13 @@ use mathlib.Core.List.{List, [], _∷_}
 use lib.Dec.{leb, ltb, eqb}
 use lib.ListN.{length, take, drop, set, replicate}
 use Rattle.region.specs.Limits.{image-limit, writes-limit, log-limit}
-use Rattle.region.specs.Answer.{unless}
+use Rattle.region.specs.Answer.{Report, unless}
 use Rattle.pieces.specs.AsyncSpec.{Write}
 pub use Rattle.records.specs.Record.{no-record}
 use Rattle.records.specs.declared.Record.{Record}
 use Rattle.desk.specs.declared.state.State.{State}
+use Rattle.desk.specs.declared.state.Outstanding.{Outstanding}
+use Rattle.desk.specs.declared.state.Outstanding.the-variants.{Bytes, Unsound}
 
 -- the records of the log are those below the count: old records past it are nobody's business
 abbrev pub log-records : State → List Record
@@ -39,6 +41,16 @@ unfoldable pub sound-for : (L : ℕ) → State → (log-length : ℕ) → Bool
 sound-for L st log-length =
     leb L image-limit && eqb log-length log-limit && leb (st .count) writes-limit
     && records-inside L (log-records st) && leb (together (log-records st)) log-limit
+
+-- what a check of it answers: 1, or 0 with the outstanding bytes
+abbrev pub check-report : (L : ℕ) → State → (log-length : ℕ) → Report
+check-report L st log-length =
+    unless (sound-for L st log-length) (record { number = 1; values = [] })
+    (record { number = 0; values = together (log-records st) ∷ [] })
+
+abbrev pub outstanding-report : Outstanding → Report
+outstanding-report (Bytes used) = record { number = 0; values = used ∷ [] }
+outstanding-report Unsound = record { number = 1; values = [] }
 
 -- the record of a write
 abbrev pub record-of : Write → Record

@@ -8,19 +8,18 @@ use region::IMAGE_LIMIT;
 use region::LOG_LIMIT;
 use region::WRITES_LIMIT;
 ghost use mathlib.Core.Path.{_≡_};
-ghost use mathlib.Core.Bool.{cond};
 ghost use Prim.Native.Nat.{_+_, _<_};
 ghost use lib.Dec.{leb};
 ghost use lib.ListN.{length, getD};
 ghost use Rattle.region.specs.Limits.{writes-limit};
-ghost use Rattle.desk.specs.State.{log-records, together, sound-for, no-record, with-record, emptied, fresh};
+ghost use Rattle.desk.specs.State.{check-report, outstanding-report, no-record, with-record, emptied, fresh};
 
 pub struct State {
     pub count: usize,
     pub records: [Record; WRITES_LIMIT],
 }
 
-// The outstanding bytes of a sound state, or that it is none.
+// The outstanding bytes of a sound state, or that it is none: document 01's 1.
 pub enum Outstanding {
     Bytes(usize),
     Unsound,
@@ -38,8 +37,7 @@ pub fn within(addr: usize, len: usize, size: usize) -> bool
 
 // Tests what every call is handed: the image's length, the state and the log buffer's length.
 pub fn checked(state: State, image: usize, log: usize) -> Outstanding
-    ensures { λ r. ⌜ (r ≡ cond (sound-for image state log) (Outstanding.Bytes (together (log-records state))) Outstanding.Unsound)
-        × (length (state .records) ≡ writes-limit) ⌝ }
+    ensures { λ r. ⌜ (outstanding-report r ≡ check-report image state log) × (length (state .records) ≡ writes-limit) ⌝ }
 {
     if IMAGE_LIMIT < image {
         return Outstanding::Unsound;

@@ -9,17 +9,15 @@ use lib.ListN.{length}
 use Rattle.region.specs.Limits.{image-limit, log-limit}
 use Rattle.region.specs.Answer.{answer-number, unless, if-done}
 use Rattle.region.specs.declared.Answer.{Answer}
-use Rattle.sheet.specs.Sheet.{well-formed, allows}
+use Rattle.sheet.specs.Sheet.{sheet-number}
 use Rattle.desk.specs.Desk.{Desk, opened-desk}
 
 module _ (d : Desk) (sheet : List ℕ) where
-  -- "Opening compares the image with itself", as a later edition's rule of two images asks
+  -- 1, and then what the sheet says of the image: 5 or 6. "Opening compares the image with itself", as a later edition's rule of two images asks.
   unfoldable pub open-number : ℕ
   open-number =
       unless (leb (length (d .image)) image-limit && eqb (length (d .log)) log-limit) 1
-      (unless (well-formed sheet) 5
-      (unless (allows sheet (d .image)) 6
-      0))
+      (sheet-number sheet (d .image))
 
   -- what opening promises: its number, and the desk afterwards
   pub record Opens (answer : Answer) (d′ : Desk) : Type 0 where

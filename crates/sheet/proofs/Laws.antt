@@ -1,17 +1,19 @@
--- What a caller of `judge` goes by. The answer is malformed by the sheet alone, and otherwise obeys or breaks as the sheet's rule says; a
+-- What a caller of `judge` learns. The answer is malformed by the sheet alone, and otherwise obeys or breaks as the sheet's rule says; a
 -- sheet of edition 1 doesn't look at the image before. Assumes nothing.
 use Prim.Native.Nat.{ℕ, _≤_, _<_}
 use native.Mathlib.Decide.{decLe}
 use native.Mathlib.Omega.{arith}
-use mathlib.Core.Path.{_≡_, refl, ap, _∙_}
-use mathlib.Core.Logic.{_↔_}
+use mathlib.Core.Path.{_≡_, refl, sym, ap, _∙_}
 use mathlib.Core.Bool.{Bool, true, false, _&&_}
 use mathlib.Core.List.{List}
 use mathlib.Core.Option.{Option, none, some}
 use lib.Dec.{leb, ltb}
 use lib.ListN.{length, getD}
 use borrow.Author.Tests.{le-leb, lt-leb}
-use Rattle.sheet.specs.Sheet.{Clause, range, same, Rule, clause, group, Rules, nil, cons, Kind, clause-holds, join, holds, members-hold, read-sheet, well-formed, obeys, rule-holds, is-rule, judged-by, judged}
+use Rattle.region.specs.Answer.{unless}
+use Rattle.sheet.specs.Sheet.{Clause, range, same, Rule, clause, group, Rules, nil, cons, Kind, clause-holds, join, holds, members-hold, read-sheet, well-formed, obeys, allows, rule-holds, is-rule, judged-number, sheet-number}
+use Rattle.sheet.specs.Inner.{judged-by, judged}
+use Rattle.sheet.specs.declared.Judged.{Judged}
 use Rattle.sheet.specs.declared.Judged.the-variants.{Malformed, Obeys, Breaks}
 
 -- A sheet of edition 1 looks at the image after alone.
@@ -42,37 +44,48 @@ before-unseen s before other after = go (read-sheet s)
     go none = refl
     go (some r) = unseen-by-rule r before other after
 
--- The answer. Each is stated for any image before, so the one that `judge` compares with itself never shows.
+-- The answer, from its number. Each is stated for any image before, so the one that `judge` compares with itself never shows.
+
+abbrev by-tests : (formed obeyed : Bool) → ℕ
+by-tests formed obeyed = unless formed 5 (unless obeyed 6 0)
+
+pub number-of-judged : (s image : List ℕ) → judged-number (judged s image) ≡ sheet-number s image
+unfolding judged
+number-of-judged s image = go (well-formed s) (allows s image)
+  where
+    go : (formed obeyed : Bool) → judged-number (judged-by formed obeyed) ≡ by-tests formed obeyed
+    go false obeyed = refl
+    go true true = refl
+    go true false = refl
 
 module _ (s image : List ℕ) where
-  judged-from : (before : List ℕ) → judged s image ≡ judged-by (well-formed s) (obeys s before image)
-  unfolding judged
-  judged-from before = ap (judged-by (well-formed s)) (before-unseen s image before image)
+  unseen : (before : List ℕ) → sheet-number s image ≡ by-tests (well-formed s) (obeys s before image)
+  unseen before = ap (by-tests (well-formed s)) (before-unseen s image before image)
 
-  pub malformed-iff : (judged s image ≡ Malformed) ↔ (well-formed s ≡ false)
-  unfolding judged
-  malformed-iff = go (well-formed s) (obeys s image image)
-    where
-      go : (formed obeyed : Bool) → (judged-by formed obeyed ≡ Malformed) ↔ (formed ≡ false)
-      go false obeyed = (λ e. refl, λ e. refl)
-      go true true = (λ e. cc, λ e. cc)
-      go true false = (λ e. cc, λ e. cc)
+  module _ {r : Judged} (told : judged-number r ≡ sheet-number s image) where
+    pub told-malformed : r ≡ Malformed → well-formed s ≡ false
+    told-malformed is = go (well-formed s) (allows s image) (sym (ap judged-number is) ∙ told)
+      where
+        go : (formed obeyed : Bool) → judged-number Malformed ≡ by-tests formed obeyed → formed ≡ false
+        go false obeyed e = refl
+        go true true e = absurd (omega (arith, e))
+        go true false e = absurd (omega (arith, e))
 
-  pub obeys-iff : (before : List ℕ) → (judged s image ≡ Obeys) ↔ ((well-formed s ≡ true) × (obeys s before image ≡ true))
-  obeys-iff before = rw (judged-from before) (go (well-formed s) (obeys s before image))
-    where
-      go : (formed obeyed : Bool) → (judged-by formed obeyed ≡ Obeys) ↔ ((formed ≡ true) × (obeyed ≡ true))
-      go false obeyed = (λ e. (cc, cc), λ e. cc)
-      go true true = (λ e. (refl, refl), λ e. refl)
-      go true false = (λ e. (refl, cc), λ e. cc)
+    pub told-obeys : r ≡ Obeys → (before : List ℕ) → (well-formed s ≡ true) × (obeys s before image ≡ true)
+    told-obeys is before = go (well-formed s) (obeys s before image) (sym (ap judged-number is) ∙ told ∙ unseen before)
+      where
+        go : (formed obeyed : Bool) → judged-number Obeys ≡ by-tests formed obeyed → (formed ≡ true) × (obeyed ≡ true)
+        go false obeyed e = absurd (omega (arith, e))
+        go true true e = (refl, refl)
+        go true false e = absurd (omega (arith, e))
 
-  pub breaks-iff : (before : List ℕ) → (judged s image ≡ Breaks) ↔ ((well-formed s ≡ true) × (obeys s before image ≡ false))
-  breaks-iff before = rw (judged-from before) (go (well-formed s) (obeys s before image))
-    where
-      go : (formed obeyed : Bool) → (judged-by formed obeyed ≡ Breaks) ↔ ((formed ≡ true) × (obeyed ≡ false))
-      go false obeyed = (λ e. (cc, cc), λ e. cc)
-      go true true = (λ e. (refl, cc), λ e. cc)
-      go true false = (λ e. (refl, refl), λ e. refl)
+    pub told-breaks : r ≡ Breaks → (before : List ℕ) → (well-formed s ≡ true) × (obeys s before image ≡ false)
+    told-breaks is before = go (well-formed s) (obeys s before image) (sym (ap judged-number is) ∙ told ∙ unseen before)
+      where
+        go : (formed obeyed : Bool) → judged-number Breaks ≡ by-tests formed obeyed → (formed ≡ true) × (obeyed ≡ false)
+        go false obeyed e = absurd (omega (arith, e))
+        go true true e = absurd (omega (arith, e))
+        go true false e = (refl, refl)
 
 -- What is obeyed is well-formed, and what is malformed nothing obeys.
 pub obeyed-is-formed : (s before after : List ℕ) → obeys s before after ≡ true → well-formed s ≡ true

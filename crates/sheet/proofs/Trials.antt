@@ -7,7 +7,7 @@ use Prim.Native.Nat.{ℕ}
 use lib.ListN.{replicate, set}
 use Rattle.bits.specs.Bits.{field, read-field}
 use Rattle.bits.specs.Binary.{binary, number-at, bytes-from, bytes-of}
-use Rattle.sheet.specs.Sheet.{Rule, clause, group, nil, cons, range, same, all, any, clause-holds, empty-holds, join, holds, read-tagged, read-entry, read-members, read-rest, read-rule, read-edition, filling, read-filling, read-whole, read-sheet, well-formed, obeys, judged}
+use Rattle.sheet.specs.Sheet.{Rule, clause, group, nil, cons, range, same, all, any, clause-holds, empty-holds, join, holds, read-tagged, read-entry, read-members, read-rest, read-rule, read-edition, filling, read-filling, read-whole, read-sheet, well-formed, obeys, judged-number, sheet-number}
 use Rattle.sheet.specs.Format.{entry-bits, rule-bits, sheet-bits, sheet-of}
 use Rattle.sheet.specs.declared.Judged.{Judged}
 use Rattle.sheet.specs.declared.Judged.the-variants.{Malformed, Obeys, Breaks}
@@ -99,6 +99,6 @@ trials =
     trial (0x18 ∷ 0x2C ∷ 0x08 ∷ 0x00 ∷ []) [] Breaks ∷
     []
 
-judged-as-told : map (λ (t : Trial). judged (t .sheet) (t .image)) trials ≡ map (λ (t : Trial). t .answer) trials
-unfolding field clause-holds empty-holds join holds read-field read-tagged read-entry read-members read-rest read-rule read-edition filling read-filling read-whole read-sheet well-formed obeys judged
+judged-as-told : map (λ (t : Trial). sheet-number (t .sheet) (t .image)) trials ≡ map (λ (t : Trial). judged-number (t .answer)) trials
+unfolding field clause-holds empty-holds join holds read-field read-tagged read-entry read-members read-rest read-rule read-edition filling read-filling read-whole read-sheet well-formed obeys
 judged-as-told = refl

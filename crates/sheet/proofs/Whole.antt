@@ -9,8 +9,8 @@ use lib.Dec.{eqb}
 use lib.ListN.{length}
 use borrow.Author.Tests.{lt-leb, le-leb, lt-ltb, le-ltb, eq-eqb, ne-eqb}
 use Rattle.bits.specs.Bits.{byte-bits, bit-count, field, Found, malformed, got, on-got, only-if, read-field}
-use Rattle.sheet.specs.Sheet.{max-bytes, max-depth, edition-bits, the-edition, Rule, holds, read-rule, read-edition, filling, read-filling, read-whole, rule-of, read-sheet, well-formed, obeys, judged-by, judged}
-use Rattle.sheet.specs.Inner.{step-told}
+use Rattle.sheet.specs.Sheet.{max-bytes, max-depth, edition-bits, the-edition, Rule, holds, read-rule, read-edition, filling, read-filling, read-whole, rule-of, read-sheet, well-formed, obeys}
+use Rattle.sheet.specs.Inner.{step-told, judged-by, judged}
 use Rattle.sheet.specs.declared.Judged.the-variants.{Malformed}
 use Rattle.sheet.specs.declared.rules.Step.{Step}
 use Rattle.sheet.specs.declared.rules.Step.the-variants.{Malformed as Malformed-step, Good}

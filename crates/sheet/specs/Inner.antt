@@ -3,7 +3,9 @@ use Prim.Native.Nat.{ℕ}
 use mathlib.Core.Bool.{Bool, true, false}
 use mathlib.Core.List.{List}
 use Rattle.bits.specs.Bits.{Found, malformed, got}
-use Rattle.sheet.specs.Sheet.{Clause, range, same, Kind, all, any, Entry, one, many, Rule, Rules, holds, members-hold}
+use Rattle.sheet.specs.Sheet.{Clause, range, same, Kind, all, any, Entry, one, many, Rule, Rules, holds, members-hold, well-formed, allows}
+use Rattle.sheet.specs.declared.Judged.{Judged}
+use Rattle.sheet.specs.declared.Judged.the-variants.{Malformed as Malformed-sheet, Obeys, Breaks}
 use Rattle.sheet.specs.declared.clause.Clause.{Clause as ClauseTold}
 use Rattle.sheet.specs.declared.clause.Clause.the-variants.{Range, Same}
 use Rattle.sheet.specs.declared.entry.Entry.{Entry as EntryTold}
@@ -41,3 +43,12 @@ step-told image (got r next) = Good next (holds r image image)
 abbrev pub group-told : Kind → (image : List ℕ) → Found Rules → Step
 group-told k image malformed = Malformed
 group-told k image (got ms next) = Good next (members-hold ms k image image)
+
+-- A whole sheet: whether it is well-formed, and whether its rule holds.
+abbrev pub judged-by : (formed obeyed : Bool) → Judged
+judged-by false obeyed = Malformed-sheet
+judged-by true true = Obeys
+judged-by true false = Breaks
+
+unfoldable pub judged : (sheet image : List ℕ) → Judged
+judged s image = judged-by (well-formed s) (allows s image)

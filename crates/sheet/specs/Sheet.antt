@@ -7,6 +7,7 @@ use mathlib.Core.List.{List}
 use mathlib.Core.Option.{Option, none, some}
 use lib.Dec.{leb, ltb, eqb}
 use lib.ListN.{length, getD}
+use Rattle.region.specs.Answer.{unless}
 use Rattle.bits.specs.Bits.{byte-bits, bit-count, field, Found, malformed, got, Reader, _>>=_, give, only-if, read-field}
 use Rattle.sheet.specs.declared.Judged.{Judged}
 use Rattle.sheet.specs.declared.Judged.the-variants.{Malformed, Obeys, Breaks}
@@ -205,11 +206,15 @@ obeys s before after = rule-holds (read-sheet s) before after
 abbrev pub allows : (sheet image : List ℕ) → Bool
 allows s image = obeys s image image
 
-abbrev pub judged-by : (formed obeyed : Bool) → Judged
-judged-by false obeyed = Malformed
-judged-by true true = Obeys
-judged-by true false = Breaks
+-- document 01's number for each case of the answer
+abbrev pub judged-number : Judged → ℕ
+judged-number Malformed = 5
+judged-number Breaks = 6
+judged-number Obeys = 0
 
--- What judging one image by a sheet answers.
-unfoldable pub judged : (sheet image : List ℕ) → Judged
-judged s image = judged-by (well-formed s) (allows s image)
+-- What judging one image by a sheet answers. No image has a part in 5.
+abbrev pub sheet-number : (sheet image : List ℕ) → ℕ
+sheet-number s image =
+    unless (well-formed s) 5
+    (unless (allows s image) 6
+    0)

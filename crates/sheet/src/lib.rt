@@ -1,5 +1,5 @@
 // The rule sheet: `judge` says whether a sheet is well-formed, and if so whether an image obeys it. Proved: for every sheet and every image
-// the answer is `judged` of `specs/Sheet.antt`. Assumed: nothing.
+// the answer has the number `sheet-number` of `specs/Sheet.antt`. Assumed: nothing.
 mod clause;
 mod entry;
 mod rules;
@@ -13,7 +13,7 @@ use rules::judge_rule;
 ghost use mathlib.Core.Path.{_≡_};
 ghost use Prim.Native.Nat.{_≤_};
 ghost use lib.ListN.{length};
-ghost use Rattle.sheet.specs.Sheet.{max-bytes, filling, judged};
+ghost use Rattle.sheet.specs.Sheet.{max-bytes, filling, judged-number, sheet-number};
 
 const MAX_BYTES: usize = 512;
 
@@ -23,7 +23,7 @@ const EDITION_BITS: usize = 4;
 
 const EDITION: usize = 1;
 
-// The sheet says no rule, or the image obeys the rule that it says, or breaks it. Document 01's numbers for these are those of an opening: gate's `open-number`.
+// The sheet says no rule, or the image obeys the rule that it says, or breaks it: document 01's 5, 0 and 6.
 pub enum Judged {
     Malformed,
     Obeys,
@@ -47,7 +47,7 @@ fn filled(sheet: &[u8], at: usize) -> bool
 }
 
 pub fn judge(sheet: &[u8], image: &[u8]) -> Judged
-    ensures { λ r. ⌜ r ≡ judged (now (sheet .entry)) (now (image .entry)) ⌝ }
+    ensures { λ r. ⌜ judged-number r ≡ sheet-number (now (sheet .entry)) (now (image .entry)) ⌝ }
 {
     if MAX_BYTES < sheet.len() {
         return Judged::Malformed;

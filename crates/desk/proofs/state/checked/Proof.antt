@@ -4,17 +4,17 @@ use Prim.Native.Nat.{ℕ, _+_, _-_, _≤_}
 use native.Mathlib.Omega.{arith}
 use native.Mathlib.Nat.{add-zero, zero-add}
 use mathlib.Core.List.{List, []}
-use mathlib.Core.Bool.{true, false, cond, _&&_, false≢true}
+use mathlib.Core.Bool.{true, false, _&&_, false≢true}
 use mathlib.Core.Path.{_≡_, refl, sym, ap, _∙_}
 use lib.Dec.{leb}
 use lib.ListN.{length, drop, length-map}
 use borrow.Author.Tests.{not-true, not-false}
 use Rattle.region.specs.Limits.{writes-limit, log-limit}
-use Rattle.region.proofs.Booleans.{cond-when, cond-unless, and-when, and-unless}
-use Rattle.desk.specs.State.{log-records, together, records-inside, sound-for}
+use Rattle.region.proofs.Booleans.{and-when, and-unless}
+use Rattle.desk.specs.State.{log-records, together, records-inside, check-report, outstanding-report}
 use Rattle.records.specs.declared.Record.{Record}
 use Rattle.desk.specs.declared.state.Outstanding.the-variants.{Bytes, Unsound}
-use Rattle.desk.proofs.Soundness.{SoundFor, facts-sound, facts-unsound}
+use Rattle.desk.proofs.Soundness.{SoundFor, facts-sound, facts-unsound, check-sound, check-unsound}
 use Rattle.desk.proofs.Records.{next, rest, together-more, inside-more, records-none}
 use Rattle.desk.proofs.state.checked.Statement.{statement}
 use Rattle.desk.proofs.state.checked.Tie as tie
@@ -41,10 +41,10 @@ few c = omega (arith, c .before .before .if3 .left, length-is (start (c .before)
 
 -- the answer where one of the facts fails
 unsound : (c : tie.Start Inv-loop μ-loop) → let a = c .args in (SoundFor (a .image) (a .t1) (a .log) → ⊥)
-    → (Unsound ≡ cond (sound-for (a .image) (a .t1) (a .log)) (Bytes (together (log-records (a .t1)))) Unsound) × (length (a .t1 .records) ≡ writes-limit)
+    → (outstanding-report Unsound ≡ check-report (a .image) (a .t1) (a .log)) × (length (a .t1 .records) ≡ writes-limit)
 unsound c n =
     let a = c .args in
-    (sym (cond-unless _ (Bytes (together (log-records (a .t1)))) Unsound (facts-unsound (a .image) (a .t1) (a .log) n)), length-is c)
+    (sym (check-unsound (a .image) (a .t1) (a .log) (facts-unsound (a .image) (a .t1) (a .log) n)), length-is c)
 
 -- the outstanding bytes are those counted, this record's and those of the records after it
 counted : (c : tie.In-loop Inv-loop μ-loop) → let st = start (c .before) .args .t1 in let l = c .before .loop in
@@ -95,8 +95,10 @@ all-counted c =
       few = passed .if3 .left;
       inside = l .inv .2 ∙ ap (records-inside (a .image)) none;
       room = omega arith;
-    } in
-    (ap Bytes all ∙ sym (cond-when _ (Bytes (together (log-records st))) Unsound (facts-sound (a .image) st (a .log) s)), length-is (start (c .before)))
+    } in (
+      ap (λ (used : ℕ). outstanding-report (Bytes used)) all ∙ sym (check-sound (a .image) st (a .log) (facts-sound (a .image) st (a .log) s)),
+      length-is (start (c .before)),
+    )
 
 pub checked-spec : {M : Type 1} → statement M
 checked-spec =

@@ -1,7 +1,6 @@
 -- An opening, test by test. Assumes nothing.
-use mathlib.Core.Path.{sym, _∙_}
 use borrow.Author.Needs.{needs}
-use Rattle.sheet.proofs.Laws.{malformed-iff, obeys-iff, breaks-iff}
+use Rattle.sheet.proofs.Laws.{told-malformed, told-obeys, told-breaks}
 use Rattle.gate.proofs.OpeningLaws.{opens-long, opens-other-log, opens-malformed, opens-broken, opens-good}
 use Rattle.gate.proofs.open.open.Statement.{statement}
 use Rattle.gate.proofs.open.open.Tie as tie
@@ -19,18 +18,18 @@ other-log c = opens-other-log (c .if2 .taken)
 malformed : tie.Need-returns-3
 malformed c =
     let at = c .before .before in
-    opens-malformed (sized at .before .if1 .left) (sized at .if2 .left) (malformed-iff _ _ .0 (sym (at .judge .ensures) ∙ c .enum-told .given .1))
+    opens-malformed (sized at .before .if1 .left) (sized at .if2 .left) (told-malformed _ _ (at .judge .ensures) (c .enum-told .given .1))
 
 broken : tie.Need-returns-4
 broken c =
     let at = c .before .before in
-    opens-broken (sized at .before .if1 .left) (sized at .if2 .left) (breaks-iff _ _ _ .0 (sym (at .judge .ensures) ∙ c .enum-told2 .given .1))
+    opens-broken (sized at .before .if1 .left) (sized at .if2 .left) (told-breaks _ _ (at .judge .ensures) (c .enum-told2 .given .1) _)
 
 good : tie.Need-returns-5
 good c =
     let at = c .before .before .before in
     opens-good (sized at .before .if1 .left) (sized at .if2 .left)
-    (obeys-iff _ _ _ .0 (sym (at .judge .ensures) ∙ c .before .enum-told3 .given .1)) (c .fresh .ensures)
+    (told-obeys _ _ (at .judge .ensures) (c .before .enum-told3 .given .1) _) (c .fresh .ensures)
 
 pub open-spec : {M : Type 1} → statement M
 open-spec =
