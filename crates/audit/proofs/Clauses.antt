@@ -10,8 +10,11 @@ use lib.ListN.{length, getD, drop, length-take}
 use borrow.Author.Tests.{leb-true}
 use Rattle.region.specs.Limits.{writes-limit}
 use Rattle.region.specs.Pmemspec.{extract-bytes}
+use Rattle.region.specs.View.{PersistentMemoryRegionView}
+use Rattle.region.specs.declared.Answer.{Answer}
 use Rattle.region.specs.declared.Answer.the-variants.{Done}
-use Rattle.region.proofs.AnswerLaws.{changed, passed}
+use Rattle.region.specs.declared.Answer.the-variants as answer
+use Rattle.region.proofs.AnswerLaws.{refusal-not-done, changed, left, passed}
 use Rattle.region.proofs.Booleans.{both}
 use Rattle.pieces.specs.AsyncSpec.{Write, no-write, AsyncView, len, writes-valid, within, write, flush, readable, can-crash-as, can-crash}
 use Rattle.pieces.proofs.Laid.{update-reads-back}
@@ -37,8 +40,17 @@ use Rattle.writelog.specs.declared.cut.CutAnswer.the-variants.{Kept}
 use Rattle.gate.specs.Opening.{Opens}
 use Rattle.gate.proofs.Gives.{opened-fresh}
 use Rattle.gate.proofs.JudgementLaws.{same-number}
+use Rattle.epochs.specs.Epoch.{flush-foretold}
 use Rattle.epochs.specs.Foretold.{foretold}
 use Rattle.epochs.proofs.Foretells.{foretold-of-nothing}
+use Rattle.tape.specs.Memory.{TapeDesk}
+use Rattle.tape.specs.Flush.{TapeFlushes}
+use Rattle.tape.proofs.NumberLaws.{ending-done}
+use Rattle.tape.proofs.Steps.{step-of-flush}
+
+-- what a tape foretells of a desk: the original's view
+abbrev pub foretold-on : (tape : List ℕ) → TapeDesk → PersistentMemoryRegionView
+foretold-on tape t = foretold (chunk-size (t .memory)) tape (t .start) (view (t .memory))
 
 -- `serialize_and_write` of pmem_async_spec_t.rs, without the object: what a write inside the region put there is read back
 pub written-is-read : (v : AsyncView) (w : Write) → within (len v) w → extract-bytes (readable (write v w)) (w .addr) (length (w .bytes)) ≡ w .bytes
@@ -94,6 +106,23 @@ module _ (d : Desk) (sized : length (d .state .records) ≡ writes-limit) where
 pub done-flush-flushes : (d : Desk) {d′ : Desk} → Flushes d Done d′ → view d′ ≡ flush (view d)
 done-flush-flushes d p =
     ap view (changed d (p .leaves) (sym (p .answers))) ∙ view-of-settled d (readable (view d)) ∙ sym (flush-leaves-the-read-image (view d))
+
+-- `flush` of pmemspec_t.rs, power_t.rs and power_v.rs, `self@ == old(self)@`, of the calls. The plain one: by every prophecy that a flush comes, the view after
+-- a done flush is the view before.
+pub done-flush-keeps-the-view : (d : Desk) {d′ : Desk} → Flushes d Done d′ → (rows rows′ : List (List Bool)) (flushed : Bool)
+    → prophecy (chunk-size d) flushed (view d′) rows′ ≡ prophecy (chunk-size d) true (view d) rows
+done-flush-keeps-the-view d p rows rows′ flushed =
+    ap (λ (v : AsyncView). prophecy (chunk-size d) flushed v rows′) (done-flush-flushes d p) ∙ flush-keeps-the-view (chunk-size d) (view d) rows rows′ flushed
+
+-- The one by tape, whatever it answers: what the tape foretells of the desk afterwards is what it foretold before.
+pub tape-flush-keeps-the-view : (t : TapeDesk) (tape : List ℕ) (a : Answer) {t′ : TapeDesk} → length (t .memory .state .records) ≡ writes-limit
+    → TapeFlushes t tape a t′ → foretold-on tape t′ ≡ foretold-on tape t
+tape-flush-keeps-the-view t tape answer.Done {t′} sized p =
+    let none = sym (p .answers) in
+    ap (λ (v : AsyncView). foretold (chunk-size (t .memory)) tape (t′ .start) v) (step-of-flush sized p none .flushed)
+    ∙ flush-keeps-the-view (chunk-size (t .memory)) (view (t .memory)) _ _ (flush-foretold tape (t′ .start))
+    ∙ ap (λ (b : Bool). prophecy (chunk-size (t .memory)) b (view (t .memory)) _) (sym (ending-done true t tape none .foretold))
+tape-flush-keeps-the-view t tape (answer.Refused why) sized p = ap (foretold-on tape) (left _ (p .leaves) (refusal-not-done why) (sym (p .answers)))
 
 -- the comment on `flush` in power_v.rs: what a cut could leave after a flush, it could have left before
 pub flush-narrows : (C : ℕ) → 0 < C → (v : AsyncView) (x : List ℕ) → can-crash C (flush v) x → can-crash C v x

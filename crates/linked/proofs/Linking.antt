@@ -2,7 +2,7 @@
 -- functions is narrower than the library's. Assumes nothing.
 use Prim.Native.Nat.{ℕ, zero, suc, _<_}
 use native.Mathlib.Omega.{arith}
-use mathlib.Core.Path.{_≡_, refl, sym, ap, subst, _∙_}
+use mathlib.Core.Path.{_≡_, refl, sym, subst, _∙_}
 use mathlib.Core.List.{List}
 use lib.ListN.{length}
 use denote.Ref.{now}
@@ -15,7 +15,7 @@ use Rattle.desk.specs.State.{fresh}
 use Rattle.desk.specs.Desk.{Desk, desk}
 use Rattle.writelog.specs.Read.{Fills}
 use Rattle.gate.specs.Opening.{open-number, Opens}
-use Rattle.tape.specs.Memory.{TapeDesk, by-tape}
+use Rattle.tape.specs.Memory.{TapeDesk}
 use Rattle.boundary.specs.Words.{state-of}
 use Rattle.boundary.specs.Lent.{Lent, TapeLent, lent-of, tape-lent-of, plainly}
 use Rattle.boundary.specs.Gate.{SkaldriftOpen}
@@ -32,7 +32,7 @@ use Rattle.session.proofs.TapeTheorem.{forget}
 use Rattle.session.proofs.Worked.{zeros, eight-is-nine, image-with, written-down, tape, the-history, the-run, the-tape-history, the-images, the-tape-run}
 use Rattle.linked.proofs.Numbers.{read-answers}
 use Rattle.linked.proofs.Runs.{answer-event, verdict-event, cut-event}
-use Rattle.linked.specs.Calls.{if-0, Call, Calls}
+use Rattle.linked.specs.Calls.{Call, Calls}
 use Rattle.linked.specs.Calls as calls
 use Rattle.linked.specs.TapeCalls.{TapeCall, TapeCalls}
 use Rattle.linked.specs.TapeCalls as tape-calls

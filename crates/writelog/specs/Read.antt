@@ -3,7 +3,7 @@
 use Prim.Native.Nat.{ℕ, _+_}
 use mathlib.Core.Path.{_≡_}
 use mathlib.Core.Bool.{_&&_}
-use mathlib.Core.List.{List}
+use mathlib.Core.List.{List, []}
 use lib.Dec.{leb, eqb}
 use lib.ListN.{length}
 use denote.Ref.{RefT, ptr, now}
@@ -39,4 +39,4 @@ module _ (d : Desk) (work : RefT (List ℕ)) (addr len : ℕ) where
   pub record HandsBack (part : RefT (List ℕ)) : Type 0 where
     pub block : ptr part .0 ≡ ptr work .0
     pub offset : ptr part .1 ≡ ptr work .1 + if-done number addr 0
-    pub bytes : now part ≡ extract-bytes (readable (view d)) addr (if-done number len 0)
+    pub bytes : now part ≡ if-done number (extract-bytes (readable (view d)) addr len) []

@@ -6,11 +6,9 @@ use mathlib.Core.Path.{_≡_, refl, sym, ap, ap₂, _∙_}
 use mathlib.Core.List.{List}
 use lib.ListN.{length, take, drop}
 use borrow.Author.Needs.{needs}
-use Rattle.region.specs.Pmemspec.{extract-bytes}
 use Rattle.region.specs.Answer.{answer-number}
 use Rattle.region.proofs.AnswerLaws.{done-changed, refused-left, changed}
-use Rattle.pieces.specs.AsyncSpec.{readable}
-use Rattle.desk.specs.Desk.{Desk, desk, view}
+use Rattle.desk.specs.Desk.{Desk, desk}
 use Rattle.writelog.specs.Read.{read-number}
 use Rattle.writelog.proofs.ReadLaws.{Asked, asked-done}
 use Rattle.writelog.proofs.read.read.Statement.{statement}
@@ -42,7 +40,7 @@ returns c =
     record {
       block = refl;
       offset = sym (add-zero (a .work .ptr .1)) ∙ ap (λ (k : ℕ). a .work .ptr .1 + k) (refused-left why _ e);
-      bytes = ap (extract-bytes (readable (view (here at))) (a .addr)) (refused-left why _ e);
+      bytes = refused-left why _ e;
     }
 
 add-end : tie.Need-add-end
@@ -61,8 +59,8 @@ returns-2 c =
       block = refl;
       offset = add-comm (a .addr) (a .work .ptr .1) ∙ ap (λ (k : ℕ). a .work .ptr .1 + k) (done-changed _ e);
       bytes =
-          ap₂ (λ (w : List ℕ) (n : ℕ). take n (drop (a .addr) w)) (changed _ (fill .read-fill .ensures .fills) e)
-          (add-sub-cancel-left (a .addr) (a .len) ∙ done-changed _ e);
+          ap₂ (λ (w : List ℕ) (n : ℕ). take n (drop (a .addr) w)) (changed _ (fill .read-fill .ensures .fills) e) (add-sub-cancel-left (a .addr) (a .len))
+          ∙ done-changed _ e;
     }
 
 pub read-spec : {M : Type 1} → statement M
