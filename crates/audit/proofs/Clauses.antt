@@ -40,7 +40,7 @@ use Rattle.writelog.specs.declared.cut.CutAnswer.the-variants.{Kept}
 use Rattle.gate.specs.Opening.{Opens}
 use Rattle.gate.proofs.Gives.{opened-fresh}
 use Rattle.gate.proofs.JudgementLaws.{same-number}
-use Rattle.epochs.specs.Epoch.{flush-foretold}
+use Rattle.epochs.specs.Epoch.{flush-foretold, epoch-rows}
 use Rattle.epochs.specs.Foretold.{foretold}
 use Rattle.epochs.proofs.Foretells.{foretold-of-nothing}
 use Rattle.tape.specs.Memory.{TapeDesk}
@@ -119,9 +119,10 @@ pub tape-flush-keeps-the-view : (t : TapeDesk) (tape : List ℕ) (a : Answer) {t
     → TapeFlushes t tape a t′ → foretold-on tape t′ ≡ foretold-on tape t
 tape-flush-keeps-the-view t tape answer.Done {t′} sized p =
     let none = sym (p .answers) in
+    let rows : List (List Bool) = epoch-rows (chunks (t .memory)) (length (view (t .memory) .outstanding-writes)) tape (t .start) in
     ap (λ (v : AsyncView). foretold (chunk-size (t .memory)) tape (t′ .start) v) (step-of-flush sized p none .flushed)
-    ∙ flush-keeps-the-view (chunk-size (t .memory)) (view (t .memory)) _ _ (flush-foretold tape (t′ .start))
-    ∙ ap (λ (b : Bool). prophecy (chunk-size (t .memory)) b (view (t .memory)) _) (sym (ending-done true t tape none .foretold))
+    ∙ flush-keeps-the-view (chunk-size (t .memory)) (view (t .memory)) rows _ (flush-foretold tape (t′ .start))
+    ∙ ap (λ (b : Bool). prophecy (chunk-size (t .memory)) b (view (t .memory)) rows) (sym (ending-done true t tape none .foretold))
 tape-flush-keeps-the-view t tape (answer.Refused why) sized p = ap (foretold-on tape) (left _ (p .leaves) (refusal-not-done why) (sym (p .answers)))
 
 -- the comment on `flush` in power_v.rs: what a cut could leave after a flush, it could have left before
