@@ -7,7 +7,8 @@ use Rattle.session.specs.TapeTheorem.{TapeSession, predictions}
 use Rattle.session.proofs.Theorem.{session}
 use Rattle.session.proofs.TapeTheorem.{tape-session}
 use Rattle.session.proofs.Computing.{everything}
-use Rattle.session.proofs.Worked.{zeros, eight-is-nine, image-with, written-down, tape, the-history, the-run, the-tape-history, the-images, the-tape-run}
+use Rattle.worked.proofs.Calls.{zeros, eight-is-nine, image-with, written-down, tape}
+use Rattle.session.proofs.Worked.{the-history, the-run, the-tape-history, the-images, the-tape-run}
 
 pub the-session : Session eight-is-nine zeros the-history (written-down (image-with 0xBB) 0xBB)
 the-session = session eight-is-nine zeros the-run

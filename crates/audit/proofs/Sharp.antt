@@ -27,7 +27,7 @@ use Rattle.session.specs.Run.{Run, opened, _and_, gate, judge, judged-write}
 use Rattle.session.specs.Theorem.{Session}
 use Rattle.session.proofs.Theorem.{session}
 use Rattle.session.proofs.Computing.{everything}
-use Rattle.session.proofs.Worked.{zeros, eight-is-nine, any-state, any-log, twice, log-with, one-write, found, idle, logged, the-opening, the-admitted-write}
+use Rattle.worked.proofs.Calls.{zeros, eight-is-nine, any-state, any-log, twice, log-with, one-write, found, idle, logged, the-opening, the-admitted-write}
 
 -- the image that a cut by a table leaves
 abbrev left-by : Desk → (table : List ℕ) → List ℕ

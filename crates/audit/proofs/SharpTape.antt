@@ -22,7 +22,7 @@ use Rattle.session.specs.History.{Event, nothing, written, flushed, cut-by, reo
 use Rattle.session.specs.TapeRun.{TapeRun, opened, judged-write, cut, _and_}
 use Rattle.session.specs.TapeTheorem.{TapeSession, prediction}
 use Rattle.session.proofs.Computing.{everything}
-use Rattle.session.proofs.Worked.{zeros, eight-is-nine, twice, image-with, log-with, found, idle, logged, written-down}
+use Rattle.worked.proofs.Calls.{zeros, eight-is-nine, twice, image-with, log-with, found, idle, logged, written-down}
 
 abbrev image-aa : List ℕ
 image-aa = image-with 0xAA

@@ -29,7 +29,8 @@ use Rattle.session.specs.TapeRun.{TapeStep, TapeRun}
 use Rattle.session.specs.TapeRun as tape-run
 use Rattle.session.proofs.Theorem.{invariant}
 use Rattle.session.proofs.TapeTheorem.{forget}
-use Rattle.session.proofs.Worked.{zeros, eight-is-nine, image-with, written-down, tape, the-history, the-run, the-tape-history, the-images, the-tape-run}
+use Rattle.worked.proofs.Calls.{zeros, eight-is-nine, image-with, written-down, tape}
+use Rattle.session.proofs.Worked.{the-history, the-run, the-tape-history, the-images, the-tape-run}
 use Rattle.linked.proofs.Numbers.{read-answers}
 use Rattle.linked.proofs.Runs.{answer-event, verdict-event, cut-event}
 use Rattle.linked.specs.Calls.{Call, Calls}
