@@ -1,4 +1,5 @@
--- What the gate tries, and what its finding is to mean. The limits on a write, and the 16 points of an engine, are no part of it.
+-- What the gate tries, and what its finding is to mean: `gate-judges-pairs` and `gate-judges-images` prove it (`proofs/Gate.antt`). The limits on a write,
+-- and the 16 points of an engine, are no part of it.
 use Prim.Native.Nat.{ℕ, _^_}
 use mathlib.Core.Path.{_≡_}
 use mathlib.Core.Logic.{_↔_}

@@ -1,9 +1,10 @@
 -- Rows packed as document 01's row table: chunk 0 in the top bit of the first byte, filled with zero bits to a whole byte, each row by itself.
-use Prim.Native.Nat.{ℕ, zero, suc, _+_, _*_, _^_, _<_}
+use Prim.Native.Nat.{ℕ, zero, suc, _+_, _*_}
 use mathlib.Core.Bool.{Bool, false, cond}
 use mathlib.Core.List.{List, [], _∷_, _++_}
 use lib.ListN.{getD}
 use Rattle.region.specs.Tab.{tab}
+pub use Rattle.bits.specs.Binary.{are-bytes}
 use Rattle.pieces.specs.Rows.{byte-bits, row-bytes}
 
 -- the number whose n bits are b from, b (from + 1), .., most significant bit first
@@ -21,7 +22,3 @@ packed-row K row = tab (packed-byte row) (row-bytes K)
 unfoldable pub packed : ℕ → List (List Bool) → List ℕ
 packed K [] = []
 packed K (row ∷ rows) = packed-row K row ++ packed K rows
-
--- every entry is a byte
-abbrev pub are-bytes : List ℕ → Type 0
-are-bytes table = (i : ℕ) → getD table i 0 < 2 ^ byte-bits

@@ -1,5 +1,6 @@
 -- The runs of a session as a desk makes them that links the functions: each step is a skaldrift_* call, or two, of which its own promise is given, on the desk's
--- own words and bytes, whatever the number. They are the steps of session's `Run`, said of the words of a state.
+-- own words and bytes, whatever the number. They are the steps of session's `Run`, said of the words of a state. Demand 3 holds of them:
+-- `linked-session : Calls sheet image h m → Session sheet image h (desk-of m)` (`proofs/Runs.antt`).
 use Prim.Native.Nat.{ℕ, suc, _+_}
 use mathlib.Core.Path.{_≡_}
 use mathlib.Core.List.{List}

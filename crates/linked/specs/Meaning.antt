@@ -1,5 +1,6 @@
 -- Demand 2 for a desk that links the functions: gate's `MeansBy`, by the number that skaldrift_judge or skaldrift_gate answers and by what `report` holds
--- afterwards. It is said of a state's words; any other number of words is answered with 1.
+-- afterwards. It is said of a state's words; any other number of words is answered with 1. `linked-judge-means` and `linked-gate-means` prove it
+-- (`proofs/Meaning.antt`).
 use Prim.Native.Nat.{ℕ}
 use mathlib.Core.Path.{_≡_}
 use mathlib.Core.List.{List}

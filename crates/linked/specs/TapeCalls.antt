@@ -1,4 +1,5 @@
 -- The runs of a session by tape as a desk makes them that links the functions: session's `TapeRun`, said of the words of a state.
+-- `linked-tape-session : TapeCalls sheet tape image h m start shown → TapeSession sheet tape image h (desk-of m) start shown` (`proofs/TapeRuns.antt`).
 use Prim.Native.Nat.{ℕ, _+_}
 use mathlib.Core.Path.{_≡_}
 use mathlib.Core.List.{List, [], _++_}
