@@ -14,7 +14,7 @@ use Rattle.writelog.specs.Flush.{Flushes}
 use Rattle.writelog.specs.Cut.{cut-report, cut-told, cut-number, kept-by-rows, Cuts}
 use Rattle.writelog.specs.declared.cut.CutAnswer.{CutAnswer}
 use Rattle.gate.specs.Opening.{Opens}
-use Rattle.gate.specs.Judgement.{verdict-report, judgement, judgement-work, judge-report, judge-number, Judges, Gates}
+use Rattle.gate.specs.Judgement.{verdict-report, judge-report, judge-number, judge-work, Judges, Gates}
 use Rattle.gate.specs.declared.Verdict.{Verdict}
 use Rattle.tape.specs.Memory.{TapeDesk, by-tape}
 use Rattle.tape.specs.Write.{TapeWrites}
@@ -78,7 +78,7 @@ module _ {m : Lent} (other : state-sized plainly m → ⊥) {number : ℕ} (told
     judge-wrong =
         record {
           answers = told ∙ refused-at plainly m other 1 (λ d. judge-number d sheet work w);
-          fills = refused-at plainly m other work (λ d. judgement-work d w work (judgement d sheet work w));
+          fills = refused-at plainly m other work (λ d. judge-work d sheet work w);
           reports = refused-at plainly m other report (λ d. reported (judge-report d sheet work w) report);
         }
 
@@ -112,7 +112,7 @@ module _ {m : Lent} (sized : state-sized plainly m) {st : State} (loaded : st �
         let here = subst (λ (s : State). Judges (desk-with m s) sheet work w verdict work′) loaded call in
         record {
           answers = told ∙ ap number-told (here .answers) ∙ called-at plainly m sized 1 (λ d. judge-number d sheet work w);
-          fills = here .fills ∙ called-at plainly m sized work (λ d. judgement-work d w work (judgement d sheet work w));
+          fills = here .fills ∙ called-at plainly m sized work (λ d. judge-work d sheet work w);
           reports =
               reports ∙ ap (λ (r : Report). reported r held) (here .answers)
               ∙ called-at plainly m sized held (λ d. reported (judge-report d sheet work w) held);

@@ -8,7 +8,7 @@ use mathlib.Core.List.{List}
 use lib.Dec.{leb, eqb}
 use lib.ListN.{length, set}
 use Rattle.region.specs.Limits.{image-limit, log-limit}
-use Rattle.region.specs.Answer.{unless, if-done}
+use Rattle.region.specs.Answer.{unless, if-done, or-else}
 use Rattle.rounds.specs.Valid.{app-valid}
 use Rattle.rounds.specs.Answer.{run-answer-number}
 use Rattle.rounds.specs.declared.RunAnswer.{RunAnswer}
@@ -39,8 +39,8 @@ module _ (image log work : List ℕ) (addr val0 val1 rounds : ℕ) where
   -- 6 is "opening: image breaks the sheet": the sheet says `app-valid` (`proofs/SheetLaws.antt`)
   unfoldable pub run-number : ℕ
   run-number =
-      let fits = fits-number (length image) (length log) (length work) addr rounds in
-      if-done fits (unless (app-valid addr val0 val1 image) 6 0) fits
+      or-else (fits-number (length image) (length log) (length work) addr rounds)
+      (unless (app-valid addr val0 val1 image) 6 0)
 
   -- what a run promises: its number, and every byte of the image, the log buffer and the working image afterwards
   pub record Runs (answer : RunAnswer) (image′ log′ work′ : List ℕ) : Type 0 where

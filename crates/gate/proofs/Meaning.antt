@@ -8,7 +8,7 @@ use mathlib.Core.List.{List}
 use lib.Dec.{lit<}
 use Rattle.region.specs.Answer.{refusal-number}
 use Rattle.region.specs.declared.Refusal.{Refusal}
-use Rattle.region.proofs.AnswerLaws.{refusals-by-number, refusal-not-8, done-changed}
+use Rattle.region.proofs.AnswerLaws.{refusals-by-number, refusal-not-8, changed}
 use Rattle.pieces.specs.AsyncSpec.{Write, write, readable}
 use Rattle.cuts.specs.Search as search
 use Rattle.cuts.specs.Covering.{Test, after-alone}
@@ -20,9 +20,10 @@ use Rattle.desk.specs.Desk.{Desk, chunk-size, view, with-write}
 use Rattle.engine.specs.Search.{sheet-finding, sheet-image}
 use Rattle.gate.specs.declared.Verdict.{Verdict}
 use Rattle.gate.specs.declared.Verdict.the-variants.{Admitted, Denied, Refused}
-use Rattle.gate.specs.Judgement.{denied-number, verdict-report, tried, judgement, judgement-report, judgement-work, gate-points, Judges, Gates}
+use Rattle.gate.specs.Judgement.{denied-number, verdict-report, finding-report, gate-points, judge-refusal, Judges, Gates}
 use Rattle.gate.specs.Meaning.{Fits, MeansBy, Means, could-leave}
-use Rattle.gate.proofs.JudgementLaws.{same-number, same-values, nothing-reported, one-value, fitting-tried, admitted-fits, denied-fits}
+use Rattle.gate.proofs.JudgementLaws.{same-number, same-values, nothing-reported, one-value, tried-exactly-if, judges-tried}
+use Rattle.gate.proofs.JudgementLaws.{admitted-fits, denied-fits, gates-admitted}
 
 -- 8 is a denial alone
 pub denial-is-no-refusal : (why : Refusal) → refusal-number why ≡ denied-number → ⊥
@@ -58,11 +59,14 @@ module _ {d : Desk} {sheet work : List ℕ} {w : Write} where
   module _ {answer : Verdict} {work′ : List ℕ} (p : Judges d sheet work w answer work′) where
     -- what a write that fits gets, by the engine's finding
     module _ (f : Fits d sheet work w) {r : search.Finding} (e : sheet-finding d w sheet ≡ r) where
-      answered : (a : Verdict) → verdict-report a ≡ judgement-report (gate-points d w) (tried r) → answer ≡ a
-      answered a report = verdicts-by-report answer a (rw (fitting-tried f, e) at (p .answers) ∙ sym report)
+      none : judge-refusal d sheet work w ≡ 0
+      none = tried-exactly-if d sheet work w .1 f
+
+      answered : (a : Verdict) → verdict-report a ≡ finding-report (gate-points d w) r → answer ≡ a
+      answered a report = verdicts-by-report answer a (changed _ (p .answers) none ∙ ap (finding-report (gate-points d w)) e ∙ sym report)
 
       filled : work′ ≡ sheet-image d w r
-      filled = rw (fitting-tried f, e) at (p .fills)
+      filled = changed work (p .fills) none ∙ ap (sheet-image d w) e
 
     admitted-so : Fits d sheet work w → sheet-finding d w sheet ≡ search.none-bad → answer ≡ Admitted (gate-points d w)
     admitted-so f e = answered f e (Admitted (gate-points d w)) refl
@@ -120,9 +124,5 @@ module _ {d : Desk} {sheet work : List ℕ} {w : Write} where
   pub admitting : Fits d sheet work w → ((x : List ℕ) → could-leave d w x → allows sheet x ≡ true)
       → Gates d sheet work w (Admitted (gate-points d w)) (with-write d w) (readable (write (view d) w))
   admitting f all =
-      let admits : judgement d sheet work w ≡ tried search.none-bad = fitting-tried f ∙ ap tried (judged d sheet w .admits .1 all) in
-      let report = ap (judgement-report (gate-points d w)) admits in
-      record {
-        judges = record { answers = sym report; fills = sym (ap (judgement-work d w work) admits) };
-        leaves = done-changed d (same-number report);
-      }
+      let good : search.none-bad ≡ sheet-finding d w sheet = sym (judged d sheet w .admits .1 all) in
+      gates-admitted (judges-tried (tried-exactly-if d sheet work w .1 f) good refl (ap (sheet-image d w) good)) refl refl

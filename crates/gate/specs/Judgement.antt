@@ -9,7 +9,7 @@ use mathlib.Core.List.{List, [], _∷_}
 use lib.Dec.{leb, eqb}
 use lib.ListN.{length}
 use Rattle.region.specs.Limits.{writes-limit, points-limit}
-use Rattle.region.specs.Answer.{Report, refusal-number, unless, if-done}
+use Rattle.region.specs.Answer.{Report, refusal-number, unless, if-done, or-else}
 use Rattle.pieces.specs.AsyncSpec.{Write, write}
 use Rattle.cuts.specs.Number.{choice-points}
 use Rattle.cuts.specs.Search as search
@@ -30,52 +30,39 @@ verdict-report (Admitted n) = record { number = 0; values = n ∷ [] }
 verdict-report (Denied m) = record { number = denied-number; values = m ∷ [] }
 verdict-report (Refused why) = record { number = refusal-number why; values = [] }
 
--- what becomes of a write: refused with a number before any image was judged, or all its images tried
-pub data Judgement : Type 0 where
-  refused : ℕ → Judgement
-  tried : search.Finding → Judgement
-
--- the number of a judgement, with n or m where one is reported
-abbrev pub judgement-report : (n : ℕ) → Judgement → Report
-judgement-report n (refused why) = record { number = why; values = [] }
-judgement-report n (tried search.none-bad) = record { number = 0; values = n ∷ [] }
-judgement-report n (tried (search.first-bad m)) = record { number = denied-number; values = m ∷ [] }
-
--- the working image that a judgement leaves
-abbrev pub judgement-work : Desk → Write → (work : List ℕ) → Judgement → List ℕ
-judgement-work d w work (refused why) = work
-judgement-work d w work (tried r) = sheet-image d w r
+-- and for each finding of a search that tried all the images
+abbrev pub finding-report : (n : ℕ) → search.Finding → Report
+finding-report n search.none-bad = record { number = 0; values = n ∷ [] }
+finding-report n (search.first-bad m) = record { number = denied-number; values = m ∷ [] }
 
 -- n: the choice points with the new write in the log
 abbrev pub gate-points : Desk → Write → ℕ
 gate-points d w = choice-points (chunk-size d) (write (view d) w)
 
-module _ (d : Desk) (sheet : List ℕ) (w : Write) where
-  -- from 7 on
-  abbrev pub weighed : Judgement
-  weighed = unless (leb (gate-points d w) points-limit) (refused 7) (tried (sheet-finding d w sheet))
-
-  -- from 2 on: the tests of a plain write, and then the judging
-  abbrev pub fitted : Judgement
-  fitted = if-done (room-for d w) weighed (refused (room-for d w))
-
 module _ (d : Desk) (sheet work : List ℕ) (w : Write) where
-  unfoldable pub judgement : Judgement
-  judgement =
-      unless (sound d && eqb (length work) (length (d .image))) (refused 1)
-      (unless (well-formed sheet) (refused 5)
-      (fitted d sheet w))
+  -- 1, 5, 2, 3, 4 or 7, or 0 where the images are tried
+  unfoldable pub judge-refusal : ℕ
+  judge-refusal =
+      unless (sound d && eqb (length work) (length (d .image))) 1
+      (unless (well-formed sheet) 5
+      (or-else (room-for d w)
+      (unless (leb (gate-points d w) points-limit) 7
+      0)))
 
   abbrev pub judge-report : Report
-  judge-report = judgement-report (gate-points d w) judgement
+  judge-report = if-done judge-refusal (finding-report (gate-points d w) (sheet-finding d w sheet)) (record { number = judge-refusal; values = [] })
 
   abbrev pub judge-number : ℕ
   judge-number = judge-report .number
 
+  -- the working image afterwards
+  abbrev pub judge-work : List ℕ
+  judge-work = if-done judge-refusal (sheet-image d w (sheet-finding d w sheet)) work
+
   -- what a judging call promises: its number with n or m, and the working image afterwards
   pub record Judges (answer : Verdict) (work′ : List ℕ) : Type 0 where
     pub answers : verdict-report answer ≡ judge-report
-    pub fills : work′ ≡ judgement-work d w work judgement
+    pub fills : work′ ≡ judge-work
 
   -- what the gate promises: the same, and the desk afterwards, which a plain write leaves so
   pub record Gates (answer : Verdict) (d′ : Desk) (work′ : List ℕ) : Type 0 where
@@ -95,6 +82,6 @@ pub record Fitting (d : Desk) (work-length : ℕ) (w : Write) : Type 0 where
   pub same : work-length ≡ length (d .image)
   pub lies : w .addr + length (w .bytes) ≤ length (d .image)
 
+-- its judging from 7 on: once 5, 3 and 4 are ruled out too, the judging call's promise
 pub record Weighs (d : Desk) (sheet work : List ℕ) (w : Write) (answer : Verdict) (work′ : List ℕ) : Type 0 where
-  pub answers : verdict-report answer ≡ judgement-report (gate-points d w) (weighed d sheet w)
-  pub fills : work′ ≡ judgement-work d w work (weighed d sheet w)
+  pub judges : well-formed sheet ≡ true → room-for d w ≡ 0 → Judges d sheet work w answer work′

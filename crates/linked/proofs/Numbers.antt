@@ -1,17 +1,17 @@
 -- Every number that a promise can give is that of an answer, a verdict or a cut's answer, by the tests that give it. Assumes nothing.
 use Prim.Native.Nat.{ℕ, zero, suc, _+_}
-use mathlib.Core.Path.{_≡_, refl, sym, subst, subst⁻¹}
+use mathlib.Core.Path.{_≡_, refl, sym}
 use mathlib.Core.Bool.{Bool, true, false, _&&_}
 use mathlib.Core.List.{List}
 use lib.Dec.{leb, ltb, eqb}
 use lib.ListN.{length}
 use Rattle.region.specs.Limits.{image-limit, writes-limit, log-limit, points-limit}
-use Rattle.region.specs.Answer.{refusal-number, answer-number, unless, if-done}
+use Rattle.region.specs.Answer.{refusal-number, answer-number, unless, or-else}
 use Rattle.region.specs.declared.Answer.{Answer}
 use Rattle.region.specs.declared.Answer.the-variants as answer
 use Rattle.region.specs.declared.Refusal.{Refusal}
 use Rattle.region.specs.declared.Refusal.the-variants.{BadState, OutOfRange, TooManyWrites, TooManyBytes, BadSheet, BrokenImage, TooManyPoints, BadRows, BadTape, NotPredicted, TooManyRounds}
-use Rattle.region.proofs.AnswerLaws.{not-done, refusal-not-done}
+use Rattle.region.proofs.AnswerLaws.{done-changed}
 use Rattle.pieces.specs.AsyncSpec.{Write}
 use Rattle.pieces.specs.Rows.{rows-right, rows-filled}
 use Rattle.cuts.specs.Search as search
@@ -29,11 +29,12 @@ use Rattle.writelog.specs.declared.cut.CutAnswer.the-variants as cut-answer
 use Rattle.writelog.proofs.CutLaws.{kept-told, refused-told}
 use Rattle.engine.specs.Search.{sheet-finding}
 use Rattle.gate.specs.Opening.{open-number}
-use Rattle.gate.specs.Judgement.{verdict-report, Judgement, refused, tried, gate-points, weighed, judgement, judgement-report, judge-report}
+use Rattle.gate.specs.Judgement.{verdict-report, finding-report, gate-points, judge-refusal, judge-report}
 use Rattle.gate.specs.declared.Verdict.{Verdict}
 use Rattle.gate.specs.declared.Verdict.the-variants as verdict
+use Rattle.gate.proofs.JudgementLaws.{by-refusal, refusal-reported}
 use Rattle.epochs.specs.Epoch.{epoch-there, epoch-number}
-use Rattle.tape.specs.Memory.{TapeDesk, or-else, tape-sound-for}
+use Rattle.tape.specs.Memory.{TapeDesk, tape-sound-for}
 use Rattle.tape.specs.Write.{tape-room-number, tape-write-number}
 use Rattle.tape.specs.Ending.{as-foretold, ending-number, tape-ending-number}
 use Rattle.example.specs.Setup.{setup-number}
@@ -142,30 +143,17 @@ pub cut-answered : (kept n : ℕ) → Answers n → (a : CutAnswer) × (cut-repo
 cut-answered kept n (answer.Done, e) = (cut-answer.Kept kept, kept-told refl (sym e))
 cut-answered kept n (answer.Refused why, e) = (cut-answer.Refused why, refused-told why kept (sym e))
 
--- a verdict has this judgement's report
-abbrev Speaks : ℕ → Judgement → Type 0
-Speaks n j = (v : Verdict) × (verdict-report v ≡ judgement-report n j)
-
-judged : (n : ℕ) (t : Bool) (why : Refusal) (rest : Judgement) → Speaks n rest → Speaks n (unless t (refused (refusal-number why)) rest)
-judged n true why rest v = v
-judged n false why rest v = (verdict.Refused why, refl)
-
-roomy : (n k : ℕ) (rest : Judgement) → Answers k → Speaks n rest → Speaks n (if-done k rest (refused k))
-roomy n k rest (answer.Done, e) v = subst (λ (k : ℕ). Speaks n (if-done k rest (refused k))) e v
-roomy n k rest (answer.Refused why, e) v =
-    subst (λ (k : ℕ). Speaks n (if-done k rest (refused k))) e
-    (subst⁻¹ (Speaks n) (not-done (refusal-number why) rest (refused (refusal-number why)) (refusal-not-done why)) (verdict.Refused why, refl))
-
-searched : (n : ℕ) (r : search.Finding) → Speaks n (tried r)
-searched n search.none-bad = (verdict.Admitted n, refl)
-searched n (search.first-bad m) = (verdict.Denied m, refl)
+-- what a judging call answers with such a number, or with the finding where it is 0
+verdict-answered : (n : ℕ) (r : search.Finding) (k : ℕ) → Answers k → (v : Verdict) × (verdict-report v ≡ by-refusal k (finding-report n r))
+verdict-answered n search.none-bad k (answer.Done, e) = (verdict.Admitted n, done-changed _ (sym e))
+verdict-answered n (search.first-bad m) k (answer.Done, e) = (verdict.Denied m, done-changed _ (sym e))
+verdict-answered n r k (answer.Refused why, e) = (verdict.Refused why, refusal-reported why (finding-report n r) (sym e))
 
 pub judge-speaks : (d : Desk) (sheet work : List ℕ) (w : Write) → (v : Verdict) × (verdict-report v ≡ judge-report d sheet work w)
-unfolding judgement
+unfolding judge-refusal
 judge-speaks d sheet work w =
-    let n = gate-points d w in
-    judged n (sound d && eqb (length work) (length (d .image))) BadState _
-    (judged n (well-formed sheet) BadSheet _
-    (roomy n _ (weighed d sheet w) (room-answers (length (d .image)) (d .state) (record-of w))
-    (judged n (leb n points-limit) TooManyPoints _
-    (searched n (sheet-finding d w sheet)))))
+    verdict-answered (gate-points d w) (sheet-finding d w sheet) _
+    (tested (sound d && eqb (length work) (length (d .image))) BadState _
+    (tested (well-formed sheet) BadSheet _
+    (or-after _ _ (room-answers (length (d .image)) (d .state) (record-of w))
+    (tested (leb (gate-points d w) points-limit) TooManyPoints 0 all-done))))

@@ -16,7 +16,7 @@ use Rattle.writelog.specs.Flush.{Flushes}
 use Rattle.writelog.specs.Cut.{cut-report, cut-number, kept-by-rows, Cuts}
 use Rattle.writelog.specs.declared.cut.CutAnswer.{CutAnswer}
 use Rattle.gate.specs.Opening.{Opens}
-use Rattle.gate.specs.Judgement.{verdict-report, judgement, judgement-work, judge-report, judge-number, Judges, Gates}
+use Rattle.gate.specs.Judgement.{verdict-report, judge-report, judge-number, judge-work, Judges, Gates}
 use Rattle.gate.specs.declared.Verdict.{Verdict}
 use Rattle.tape.specs.Write.{TapeWrites}
 use Rattle.tape.specs.Flush.{TapeFlushes}
@@ -91,7 +91,7 @@ module _ {m : Lent} (sized : state-sized plainly m) where
           v,
           ap (λ (r : Report). r .number) same ∙ called-at plainly m sized 1 (λ d. judge-number d sheet work w) ∙ sym (p .answers),
           ap (λ (r : Report). reported r report) same ∙ called-at plainly m sized report (λ d. reported (judge-report d sheet work w) report) ∙ sym (p .reports),
-          record { answers = same; fills = p .fills ∙ sym (called-at plainly m sized work (λ d. judgement-work d w work (judgement d sheet work w))) },
+          record { answers = same; fills = p .fills ∙ sym (called-at plainly m sized work (λ d. judge-work d sheet work w)) },
         )
 
     module _ {m′ : Lent} (p : SkaldriftGate m sheet work w report number m′ work′ report′) where

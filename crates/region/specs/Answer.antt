@@ -37,3 +37,7 @@ unless good refusal rest = cond good rest refusal
 abbrev pub if-done {ℓ} : {A : Type ℓ} → ℕ → A → A → A
 if-done zero after before = after
 if-done (suc why) after before = before
+
+-- a refusal's number, or what comes after it
+abbrev pub or-else : (number rest : ℕ) → ℕ
+or-else number rest = if-done number rest number

@@ -6,14 +6,14 @@ use mathlib.Core.Bool.{Bool, Bool·beq}
 use mathlib.Core.List.{List}
 use lib.ListN.{length}
 use Rattle.region.specs.Limits.{writes-limit}
-use Rattle.region.specs.Answer.{answer-number, unless, if-done}
+use Rattle.region.specs.Answer.{answer-number, unless, if-done, or-else}
 use Rattle.region.specs.declared.Answer.{Answer}
 use Rattle.pieces.specs.AsyncSpec.{size-to-chunks}
 use Rattle.desk.specs.Desk.{Desk, chunk-size, chunks, settled-desk}
 use Rattle.desk.specs.declared.state.State.{State}
 use Rattle.epochs.specs.Epoch.{flush-foretold, row-place, epoch-number}
 use Rattle.epochs.specs.Foretold.{predicted-now}
-use Rattle.tape.specs.Memory.{TapeDesk, by-tape, or-else, tape-sound-for}
+use Rattle.tape.specs.Memory.{TapeDesk, by-tape, tape-sound-for}
 
 -- the end is the one that the header foretells
 abbrev pub as-foretold : (flushing : Bool) (tape : List ℕ) (start : ℕ) → Bool

@@ -4,7 +4,6 @@ use Prim.Native.Nat.{ℕ}
 use mathlib.Core.Bool.{Bool, _&&_}
 use mathlib.Core.List.{List}
 use lib.Dec.{eqb}
-use Rattle.region.specs.Answer.{if-done}
 use Rattle.desk.specs.State.{sound-for}
 use Rattle.desk.specs.Desk.{Desk}
 use Rattle.desk.specs.declared.state.State.{State}
@@ -16,10 +15,6 @@ pub record TapeDesk : Type 0 where
 
 abbrev pub by-tape : Desk → (start : ℕ) (predicted : List ℕ) → TapeDesk
 by-tape d start predicted = record { memory = d; start = start; predicted = predicted }
-
--- a refusal's number, or what comes after it
-abbrev pub or-else : (number rest : ℕ) → ℕ
-or-else number rest = if-done number rest number
 
 -- refusal 1 as a tape call meets it: "predicted image not L bytes" too
 abbrev pub tape-sound-for : (L : ℕ) → State → (log-length predicted-length : ℕ) → Bool

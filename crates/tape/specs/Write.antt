@@ -3,7 +3,7 @@ use Prim.Native.Nat.{ℕ, _+_}
 use mathlib.Core.Path.{_≡_}
 use mathlib.Core.List.{List}
 use lib.ListN.{length}
-use Rattle.region.specs.Answer.{answer-number, unless, if-done}
+use Rattle.region.specs.Answer.{answer-number, unless, if-done, or-else}
 use Rattle.region.specs.declared.Answer.{Answer}
 use Rattle.pieces.specs.AsyncSpec.{Write, size-to-chunks}
 use Rattle.desk.specs.State.{record-of, room-number}
@@ -12,7 +12,7 @@ use Rattle.records.specs.declared.Record.{Record}
 use Rattle.desk.specs.declared.state.State.{State}
 use Rattle.epochs.specs.Epoch.{epoch-number}
 use Rattle.epochs.specs.Foretold.{predicted-now}
-use Rattle.tape.specs.Memory.{TapeDesk, by-tape, or-else, tape-sound-for}
+use Rattle.tape.specs.Memory.{TapeDesk, by-tape, tape-sound-for}
 
 -- 2, 3, 4, then 10 and 9 for the rows of the epoch with the new one
 unfoldable pub tape-room-number : (C L : ℕ) → State → (tape : List ℕ) (start : ℕ) → Record → ℕ

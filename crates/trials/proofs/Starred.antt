@@ -14,7 +14,7 @@ use Rattle.sheet.specs.Sheet.{read-edition, filling, read-filling, read-whole, 
 use Rattle.desk.specs.State.{writes-of, together, records-inside, sound-for}
 use Rattle.writelog.specs.Read.{asked-number}
 use Rattle.writelog.specs.Cut.{cut-number}
-use Rattle.gate.specs.Judgement.{judgement}
+use Rattle.gate.specs.Judgement.{judge-refusal}
 use Rattle.epochs.specs.Epoch.{epoch-number}
 use Rattle.tape.specs.Write.{tape-room-number, tape-write-number}
 use Rattle.tape.specs.Ending.{ending-number}
@@ -37,7 +37,7 @@ unfolding clause-holds empty-holds join holds members-hold well-formed obeys
 rules = record {}
 
 unfoldable numbers : Type 0
-unfolding writes-of together records-inside sound-for asked-number cut-number judgement epoch-number tape-room-number tape-write-number ending-number
+unfolding writes-of together records-inside sound-for asked-number cut-number judge-refusal epoch-number tape-room-number tape-write-number ending-number
 numbers = record {}
 
 pub starred-trials-hold : map (λ (t : Trial). t .gives) starred ≡ map (λ (t : Trial). t .says) starred

@@ -15,7 +15,7 @@ use Rattle.writelog.specs.Read.{asked-number}
 use Rattle.writelog.specs.Flush.{flush-number}
 use Rattle.writelog.specs.Cut.{cut-number}
 use Rattle.gate.specs.Opening.{open-number}
-use Rattle.gate.specs.Judgement.{judgement}
+use Rattle.gate.specs.Judgement.{judge-refusal}
 use Rattle.epochs.specs.Epoch.{epoch-number}
 use Rattle.tape.specs.Write.{tape-room-number, tape-write-number}
 use Rattle.tape.specs.Ending.{ending-number}
@@ -37,7 +37,7 @@ unfolding field read-field read-tagged read-entry read-members read-rest read-ru
 reading = record {}
 
 unfoldable numbers : Type 0
-unfolding together writes-of records-inside sound-for write-number asked-number flush-number cut-number open-number judgement
+unfolding together writes-of records-inside sound-for write-number asked-number flush-number cut-number open-number judge-refusal
 numbers = record {}
 
 unfoldable tapes : Type 0

@@ -10,7 +10,7 @@ use Rattle.pieces.specs.AsyncSpec.{Write, write-of}
 use Rattle.desk.specs.Desk.{Desk, desk, room-for}
 use Rattle.desk.proofs.Soundness.{sound-facts}
 use Rattle.desk.proofs.RoomLaws.{room-done}
-use Rattle.gate.proofs.JudgementLaws.{judges-other-length, judges-malformed, judges-no-room, judges-weighed}
+use Rattle.gate.proofs.JudgementLaws.{judges-other-length, judges-malformed, judges-no-room}
 use Rattle.gate.proofs.judge.decide.Statement.{statement}
 use Rattle.gate.proofs.judge.decide.Tie as tie
 
@@ -68,10 +68,7 @@ no-room c =
     (sym (answered .room .ensures) ∙ ap answer-number (c .before .why .given .1))
 
 weighed : tie.Need-returns-4
-weighed c =
-    let told = c .before .before .before .before in
-    let at = asked told in
-    judges-weighed (start at .pre .good) (at .before .before .if1 .left) (formed-here at) (room-none told) (c .before .before .weigh .ensures)
+weighed c = let told = c .before .before .before .before in c .before .before .weigh .ensures .judges (formed-here (asked told)) (room-none told)
 
 pub decide-spec : {M : Type 1} → statement M
 decide-spec =

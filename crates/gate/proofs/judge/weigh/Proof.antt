@@ -62,18 +62,19 @@ add-n c =
     omega (arith, c .touched .ensures, c .before .log-points .ensures, logged, facts .room, facts .short, written, entry .pre .lies)
 
 too-many : tie.Need-returns
-too-many c = weighs-many (omega (arith, points-here (c .before)))
+too-many c = weighs-many (start (c .before) .pre) (omega (arith, points-here (c .before)))
 
 admitted : tie.Need-returns-2
 admitted c =
     let at = c .before .before .before .before in
     let points = points-here (counted at) in
-    weighs-admitted (omega (arith, points, at .before .before .if1 .left)) (at .search .ensures) (c .enum-told .given .1) points
+    weighs-admitted (start (counted at) .pre) (omega (arith, points, at .before .before .if1 .left)) (at .search .ensures) (c .enum-told .given .1) points
 
 denied : tie.Need-returns-3
 denied c =
     let at = c .before .before .before .before .before in
-    weighs-denied (omega (arith, points-here (counted at), at .before .before .if1 .left)) (at .search .ensures) (c .before .m .given .1)
+    let points = points-here (counted at) in
+    weighs-denied (start (counted at) .pre) (omega (arith, points, at .before .before .if1 .left)) (at .search .ensures) (c .before .m .given .1)
 
 pub weigh-spec : {M : Type 1} → statement M
 weigh-spec =
