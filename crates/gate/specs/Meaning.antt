@@ -1,5 +1,6 @@
 -- What the answers are to mean, said over the cuts themselves and not over what an engine tries. An image that a cut could leave is one that some rows
--- leave, for any log: `can_crash_as` of pmem_async_spec_t.rs.
+-- leave, for any log: `can_crash_as` of pmem_async_spec_t.rs. `judge-means` and `gate-means` prove it of every answer (`proofs/Meaning.antt`),
+-- `opens-exactly-if` of an opening (`proofs/OpeningLaws.antt`).
 use Prim.Native.Nat.{ℕ, _+_, _≤_, _<_}
 use mathlib.Core.Path.{_≡_}
 use mathlib.Core.Logic.{_↔_}
