@@ -2,6 +2,7 @@
 use native.Mathlib.Omega.{arith}
 use mathlib.Core.Path.{_≡_, sym, ap, _∙_}
 use mathlib.Core.Bool.{true}
+use lib.ListN.{length}
 use borrow.Author.Tests.{not-true, not-false}
 use borrow.Author.Needs.{needs}
 use Rattle.region.specs.Answer.{answer-number}
@@ -28,6 +29,10 @@ here c = desk (c .args .image .now) (c .args .state) (c .args .log .now)
 abbrev new : tie.Start → Write
 new c = write-of (c .args .addr) (c .args .bytes .now)
 
+-- the working image has the image's length, once its test is passed; `omega` reads the test, so that a slip in it fails by a number
+same-here : (c : tie.Else1) → let a = c .before .before .before .before .before .before .args in length (a .work .now) ≡ length (a .image .now)
+same-here c = omega (arith, c .if1 .left)
+
 -- the sheet is well-formed, once its test is passed
 formed-here : (c : tie.Else2) → well-formed (start c .args .sheet .now) ≡ true
 formed-here c = sym (c .before .formed .ensures) ∙ not-false (c .before .formed .result) (c .if2 .left)
@@ -37,12 +42,12 @@ room-none : (c : tie.After-enum-told) → let at = start (asked c) in room-for (
 room-none c = sym (c .before .before .room .ensures) ∙ ap answer-number (c .enum-told .given .1)
 
 other-length : tie.Need-returns
-other-length c = judges-other-length (c .if1 .taken)
+other-length c = judges-other-length (λ same. absurd (omega (arith, same, c .if1 .taken)))
 
 malformed : tie.Need-returns-2
 malformed c =
     let entry = c .before .before .before .before .before .before .before .before in
-    judges-malformed (entry .pre .good) (c .before .before .if1 .left) (sym (c .before .formed .ensures) ∙ not-true (c .before .formed .result) (c .if2 .taken))
+    judges-malformed (entry .pre .good) (same-here (c .before .before)) (sym (c .before .formed .ensures) ∙ not-true (c .before .formed .result) (c .if2 .taken))
 
 room-requires : tie.Need-room-requires
 room-requires c κs =
@@ -56,7 +61,7 @@ weigh-requires c κs =
     record {
       sized = entry .pre .sized;
       good = entry .pre .good;
-      same = at .before .before .if1 .left;
+      same = same-here (at .before .before);
       lies = room-done _ (entry .args .state) _ (room-none (c .before)) .lies;
     }
 
@@ -64,7 +69,7 @@ no-room : tie.Need-returns-3
 no-room c =
     let answered = c .before .before .before in
     let at = answered .before in
-    judges-no-room (start at .pre .good) (at .before .before .if1 .left) (formed-here at) (c .before .why .given .0 .0)
+    judges-no-room (start at .pre .good) (same-here (at .before .before)) (formed-here at) (c .before .why .given .0 .0)
     (sym (answered .room .ensures) ∙ ap answer-number (c .before .why .given .1))
 
 weighed : tie.Need-returns-4
