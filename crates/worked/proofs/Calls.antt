@@ -7,7 +7,7 @@ use lib.ListN.{replicate, set}
 use denote.Ref.{RefT}
 use Rattle.region.specs.Limits.{writes-limit, log-limit}
 use Rattle.region.specs.declared.Answer.the-variants.{Done, Refused}
-use Rattle.region.specs.declared.Refusal.the-variants.{BadState, OutOfRange}
+use Rattle.region.specs.declared.Refusal.the-variants.{OutOfRange, BrokenImage, BadRows, BadTape, NotPredicted}
 use Rattle.pieces.specs.AsyncSpec.{Write, write-of}
 use Rattle.desk.specs.State.{record-of, appended, emptied, fresh}
 use Rattle.desk.specs.Desk.{Desk, desk}
@@ -17,9 +17,11 @@ use Rattle.writelog.specs.Read.{Fills, HandsBack}
 use Rattle.writelog.specs.Flush.{Flushes}
 use Rattle.writelog.specs.Cut.{Cuts}
 use Rattle.writelog.specs.declared.cut.CutAnswer.the-variants.{Kept}
+use Rattle.writelog.specs.declared.cut.CutAnswer.the-variants as cut-answer
 use Rattle.gate.specs.Opening.{Opens}
 use Rattle.gate.specs.Judgement.{Judges, Gates}
 use Rattle.gate.specs.declared.Verdict.the-variants.{Admitted, Denied}
+use Rattle.gate.specs.declared.Verdict.the-variants as verdict
 use Rattle.tape.specs.Memory.{by-tape}
 use Rattle.tape.specs.Write.{TapeWrites}
 use Rattle.tape.specs.Flush.{TapeFlushes}
@@ -93,6 +95,10 @@ pub the-denied-write : Gates (logged zeros 0xAA) eight-is-nine zeros (write-of 9
 unfolding calls
 the-denied-write = record { judges = record { answers = refl; fills = refl }; leaves = refl }
 
+pub the-denied-verdict : Judges (logged zeros 0xAA) eight-is-nine zeros (write-of 9 (0xBB ∷ [])) (Denied 2) (set zeros 9 0xBB)
+unfolding calls
+the-denied-verdict = record { answers = refl; fills = refl }
+
 -- what ends past the image
 abbrev pub too-far : Write
 too-far = write-of 16 (0xBB ∷ [])
@@ -100,6 +106,10 @@ too-far = write-of 16 (0xBB ∷ [])
 pub the-refused-write : Writes (logged zeros 0xAA) too-far (Refused OutOfRange) (logged zeros 0xAA)
 unfolding calls
 the-refused-write = record { answers = refl; leaves = refl }
+
+pub the-refused-gate : Gates (logged zeros 0xAA) eight-is-nine zeros too-far (verdict.Refused OutOfRange) (logged zeros 0xAA) zeros
+unfolding calls
+the-refused-gate = record { judges = record { answers = refl; fills = refl }; leaves = refl }
 
 pub the-refused-tape-write : TapeWrites (by-tape (logged zeros 0xAA) 0 zeros) tape too-far (Refused OutOfRange) (by-tape (logged zeros 0xAA) 0 zeros)
 unfolding calls
@@ -121,6 +131,15 @@ pub the-read : HandsBack (logged zeros 0xAA) (a-lent 0 zeros) 8 1 (a-lent 8 (0xA
 unfolding calls
 the-read = record { block = refl; offset = refl; bytes = refl }
 
+pub the-refused-read : HandsBack (logged zeros 0xAA) (a-lent 0 zeros) 16 1 (a-lent 0 [])
+unfolding calls
+the-refused-read = record { block = refl; offset = refl; bytes = refl }
+
+-- by a table of no row
+pub the-refused-cut : Cuts (logged zeros 0xAA) [] (cut-answer.Refused BadRows) (logged zeros 0xAA)
+unfolding calls
+the-refused-cut = record { answers = refl; leaves = refl }
+
 pub the-cut : Cuts (logged zeros 0xAA) rows (Kept 1) (written-down (image-with 0xAA) 0xAA)
 unfolding calls
 the-cut = record { answers = refl; leaves = refl }
@@ -138,8 +157,8 @@ pub the-losing-reopening : Opens (logged (image-with 0xAA) 0xCC) eight-is-nine D
 unfolding calls
 the-losing-reopening = record { answers = refl; leaves = refl }
 
--- over a log buffer that is too short
-pub the-refused-opening : Opens (desk (image-with 0xAA) any-state []) eight-is-nine (Refused BadState) (desk (image-with 0xAA) any-state [])
+-- over a broken image
+pub the-refused-opening : Opens (found (set zeros 8 0xAA)) eight-is-nine (Refused BrokenImage) (found (set zeros 8 0xAA))
 unfolding calls
 the-refused-opening = record { answers = refl; leaves = refl }
 
@@ -168,6 +187,15 @@ pub the-tape-write : TapeWrites (by-tape (idle (image-with 0xCC)) 0 zeros) tape 
 unfolding calls
 the-tape-write = record { answers = refl; leaves = refl }
 
+-- past the tape's end, and a cut where the tape says that a flush will come
+pub the-tape-write-past-the-end : TapeWrites (by-tape (idle (image-with 0xCC)) 4 zeros) tape (twice 0xDD) (Refused BadTape) (by-tape (idle (image-with 0xCC)) 4 zeros)
+unfolding calls
+the-tape-write-past-the-end = record { answers = refl; leaves = refl }
+
+pub the-refused-tape-cut : TapeCuts (by-tape (logged (image-with 0xCC) 0xDD) 0 zeros) tape (cut-answer.Refused NotPredicted) (by-tape (logged (image-with 0xCC) 0xDD) 0 zeros)
+unfolding calls
+the-refused-tape-cut = record { answers = refl; leaves = refl }
+
 -- lent another buffer than the write was
 pub the-tape-flush : TapeFlushes (by-tape (logged (image-with 0xCC) 0xDD) 0 zeros) tape Done (by-tape (written-down (image-with 0xDD) 0xDD) 2 (image-with 0xDD))
 unfolding calls
@@ -181,6 +209,11 @@ the-reopening = record { answers = refl; leaves = refl }
 pub the-second-restart : Opens (found (image-with 0xDD)) eight-is-nine Done (idle (image-with 0xDD))
 unfolding calls
 the-second-restart = record { answers = refl; leaves = refl }
+
+-- a flush where the tape says that a cut will come
+pub the-refused-tape-flush : TapeFlushes (by-tape (idle (image-with 0xDD)) 2 zeros) tape (Refused NotPredicted) (by-tape (idle (image-with 0xDD)) 2 zeros)
+unfolding calls
+the-refused-tape-flush = record { answers = refl; leaves = refl }
 
 pub the-verdict-on-bb : Judges (idle (image-with 0xDD)) eight-is-nine zeros (twice 0xBB) (Admitted 1) (image-with 0xBB)
 unfolding calls
