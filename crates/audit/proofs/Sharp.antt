@@ -1,5 +1,6 @@
 -- Every premise of demand 3 is needed: for each a run up to the step that breaks it alone, that step, its calls' promises kept to the byte, and a
--- conclusion of the theorem that is then false. Those of a session by tape are in `SharpTape`. Assumes nothing.
+-- conclusion of the theorem that is then false. A broken image has no run before it, and a short log buffer is a premise of one conclusion alone, which
+-- `short-log` shows. Those of a session by tape are in `SharpTape`. Assumes nothing.
 use Prim.Native.Nat.{ℕ}
 use native.Mathlib.Omega.{arith}
 use mathlib.Core.Path.{_≡_, refl, sym, ap, _∙_}
@@ -34,7 +35,7 @@ abbrev left-by : Desk → (table : List ℕ) → List ℕ
 left-by d table = flush-selective (chunk-size d) (view d) (rows-there (chunk-size d) (view d) table 0)
 
 -- where it breaks the sheet, there is no session
-no-session : {sheet image : List ℕ} {h : History} {d : Desk} (table : List ℕ) → allows sheet (left-by d table) ≡ false → Session sheet image h d → ⊥
+pub no-session : {sheet image : List ℕ} {h : History} {d : Desk} (table : List ℕ) → allows sheet (left-by d table) ≡ false → Session sheet image h d → ⊥
 no-session {d = d} table broken s =
     let rows = rows-there (chunk-size d) (view d) table 0 in
     false≢true (sym broken ∙ s .cuts-obey (left-by d table) (rows, shaped-rows-crash (chunk-size d) (view d) rows (rows-at-shape _ _ table 0)))

@@ -1,9 +1,9 @@
--- A run of the library's is a run of linked calls: a desk that links the functions can make every run that the theorems speak of, so no step over the
--- functions is narrower than the library's. Assumes nothing.
+-- A run of the library's is a run of linked calls: a desk that links the functions can make every run that the theorems speak of. Its openings are carried
+-- over to the words of a fresh state, since an opening looks at none; that they may be handed other words is said beside it. Assumes nothing.
 use Prim.Native.Nat.{ℕ, zero, suc, _<_}
 use native.Mathlib.Omega.{arith}
 use mathlib.Core.Path.{_≡_, refl, sym, subst, _∙_}
-use mathlib.Core.List.{List}
+use mathlib.Core.List.{List, []}
 use lib.ListN.{length}
 use denote.Ref.{now}
 use Rattle.region.specs.Limits.{writes-limit}
@@ -17,19 +17,19 @@ use Rattle.writelog.specs.Read.{Fills}
 use Rattle.gate.specs.Opening.{open-number, Opens}
 use Rattle.tape.specs.Memory.{TapeDesk}
 use Rattle.boundary.specs.Words.{state-of}
-use Rattle.boundary.specs.Lent.{Lent, TapeLent, lent-of, tape-lent-of, plainly}
+use Rattle.boundary.specs.Lent.{Lent, lent, TapeLent, lent-of, tape-lent-of, plainly}
 use Rattle.boundary.specs.Gate.{SkaldriftOpen}
 use Rattle.boundary.proofs.WordLaws.{state-back, words-length}
-use Rattle.boundary.proofs.CallLaws.{state-sized}
+use Rattle.boundary.proofs.CallLaws.{state-sized, wrong}
 use Rattle.boundary.proofs.FunctionLaws.{read-right, judge-right, gate-right, write-right, flush-right, open-right, cut-right, tape-write-right, tape-flush-right, tape-cut-right}
-use Rattle.session.specs.History.{Event, History}
+use Rattle.session.specs.History.{Event, nothing, History}
 use Rattle.session.specs.Run.{Step, Run}
 use Rattle.session.specs.Run as run
 use Rattle.session.specs.TapeRun.{TapeStep, TapeRun}
 use Rattle.session.specs.TapeRun as tape-run
 use Rattle.session.proofs.Theorem.{invariant}
 use Rattle.session.proofs.TapeTheorem.{forget}
-use Rattle.worked.proofs.Calls.{zeros, eight-is-nine, image-with, written-down, tape}
+use Rattle.worked.proofs.Calls.{zeros, eight-is-nine, any-log, image-with, written-down, tape}
 use Rattle.session.proofs.Worked.{the-history, the-run, the-tape-history, the-images, the-tape-run}
 use Rattle.linked.proofs.Numbers.{read-answers}
 use Rattle.linked.proofs.Runs.{answer-event, verdict-event, cut-event}
@@ -46,16 +46,16 @@ one-more why = go (refusal-number why) (refusal-not-done why)
     go zero h = absurd (omega (arith, h))
     go (suc n) h = (n, refl)
 
--- an opening looks at no state: over the words of any it does the same
-abbrev with-any-state : Desk → Desk
-with-any-state found = desk (found .image) fresh (found .log)
+-- an opening looks at no state: over the words of a fresh one it does the same
+abbrev with-fresh-state : Desk → Desk
+with-fresh-state found = desk (found .image) fresh (found .log)
 
 module _ {sheet : List ℕ} {found d′ : Desk} where
-  opens-alike : Opens found sheet answer.Done d′ → Opens (with-any-state found) sheet answer.Done d′
+  opens-alike : Opens found sheet answer.Done d′ → Opens (with-fresh-state found) sheet answer.Done d′
   unfolding open-number
   opens-alike p = record { answers = p .answers; leaves = changed _ (p .leaves) (sym (p .answers)) ∙ done-changed _ (sym (p .answers)) }
 
-  refused-alike : {why : Refusal} → Opens found sheet (answer.Refused why) d′ → Opens (with-any-state found) sheet (answer.Refused why) (with-any-state found)
+  refused-alike : {why : Refusal} → Opens found sheet (answer.Refused why) d′ → Opens (with-fresh-state found) sheet (answer.Refused why) (with-fresh-state found)
   unfolding open-number
   refused-alike {why} p = record { answers = p .answers; leaves = refused-left why _ (sym (p .answers)) }
 
@@ -73,10 +73,10 @@ module _ (sheet : List ℕ) where
   renamed {m} {m′} same c = subst (λ (e : Event). Call sheet m e m′) (sym same) c
 
   refused-opening-is-a-call : {found d′ : Desk} {why : Refusal} {number : ℕ} → number ≡ refusal-number why → Opens found sheet (answer.Refused why) d′
-      → SkaldriftOpen (lent-of (with-any-state found)) sheet number (lent-of (with-any-state found))
+      → SkaldriftOpen (lent-of (with-fresh-state found)) sheet number (lent-of (with-fresh-state found))
   refused-opening-is-a-call told p = open-right (words-length fresh refl) (sym (state-back fresh)) refl told (refused-alike p)
 
-  opening-is-a-call : {found d′ : Desk} → Opens found sheet answer.Done d′ → SkaldriftOpen (lent-of (with-any-state found)) sheet 0 (lent-of d′)
+  opening-is-a-call : {found d′ : Desk} → Opens found sheet answer.Done d′ → SkaldriftOpen (lent-of (with-fresh-state found)) sheet 0 (lent-of d′)
   opening-is-a-call p = open-right (words-length fresh refl) (sym (state-back fresh)) refl refl (opens-alike p)
 
   pub step-is-a-call : (d : Desk) → Full d → {e : Event} {d′ : Desk} → Step sheet d e d′ → Call sheet (lent-of d) e (lent-of d′)
@@ -142,9 +142,13 @@ module _ (sheet tape : List ℕ) where
   tape-run-is-calls {image} (tape-run._and_ r s) =
       tape-calls._and_ (tape-run-is-calls r) (tape-step-is-a-call _ (invariant sheet image (forget sheet tape r) .holds .sized) s)
 
--- the worked histories of `session`, with every kind of step, as a desk makes them that links the functions
+-- the worked runs of `session`, with every kind of step, as a desk makes them that links the functions
 pub the-calls : Calls eight-is-nine zeros the-history (lent-of (written-down (image-with 0xBB) 0xBB))
 the-calls = run-is-calls eight-is-nine the-run
 
 pub the-tape-calls : TapeCalls eight-is-nine tape (image-with 0xCC) the-tape-history (lent-of (written-down (image-with 0xBB) 0xBB)) 4 the-images
 the-tape-calls = tape-run-is-calls eight-is-nine tape the-tape-run
+
+-- an opening that is handed no words at all is refused with 1, and is a call of a run
+pub the-opening-over-no-words : (m : Lent) → Call eight-is-nine m nothing m
+the-opening-over-no-words m = calls.refused-opening {found = lent zeros [] any-log} {why = 0} (record { does = wrong (λ sized. absurd (omega (arith, sized))) refl })
