@@ -1,14 +1,21 @@
 -- No call of the library leaves a choice: of the answer with what it reports, nor of any memory that it is lent. The viewer's part is pinned in `region`
 -- (`viewed-once`). Assumes nothing.
 use Prim.Native.Nat.{ℕ}
-use mathlib.Core.Path.{_≡_, sym, ap}
+use native.Mathlib.Omega.{arith}
+use mathlib.Core.Path.{_≡_, refl, sym, ap}
 use mathlib.Core.List.{List}
 use denote.Ref.{RefT, ptr, now}
-use Rattle.region.specs.Answer.{answer-number}
+use Rattle.region.specs.Answer.{Report, answer-number}
 use Rattle.region.specs.declared.Answer.{Answer}
 use Rattle.region.proofs.AnswerLaws.{answers-by-number, refusals-by-number}
 use Rattle.pieces.specs.AsyncSpec.{Write}
+use Rattle.sheet.specs.Sheet.{judged-number}
+use Rattle.sheet.specs.declared.Judged.{Judged}
+use Rattle.sheet.specs.declared.Judged.the-variants.{Malformed, Obeys, Breaks}
+use Rattle.desk.specs.State.{outstanding-report}
 use Rattle.desk.specs.Desk.{Desk}
+use Rattle.desk.specs.declared.state.Outstanding.{Outstanding}
+use Rattle.desk.specs.declared.state.Outstanding.the-variants.{Bytes, Unsound}
 use Rattle.writelog.specs.Write.{Writes}
 use Rattle.writelog.specs.Read.{Fills, HandsBack}
 use Rattle.writelog.specs.Flush.{Flushes}
@@ -41,6 +48,31 @@ cuts-by-report (Refused a) (Refused b) e = ap Refused (refusals-by-number a b (s
 -- any call whose promise is its number alone
 pub number-pinned : {n : ℕ} (a b : Answer) → answer-number a ≡ n → answer-number b ≡ n → a ≡ b
 number-pinned a b p q = answers-by-number a b (same p q)
+
+-- what a sheet is judged to be, by its number
+judged-by-number : (a b : Judged) → judged-number a ≡ judged-number b → a ≡ b
+judged-by-number Malformed Malformed e = refl
+judged-by-number Malformed Obeys e = absurd (omega (arith, e))
+judged-by-number Malformed Breaks e = absurd (omega (arith, e))
+judged-by-number Obeys Malformed e = absurd (omega (arith, e))
+judged-by-number Obeys Obeys e = refl
+judged-by-number Obeys Breaks e = absurd (omega (arith, e))
+judged-by-number Breaks Malformed e = absurd (omega (arith, e))
+judged-by-number Breaks Obeys e = absurd (omega (arith, e))
+judged-by-number Breaks Breaks e = refl
+
+pub sheet-pinned : {n : ℕ} (a b : Judged) → judged-number a ≡ n → judged-number b ≡ n → a ≡ b
+sheet-pinned a b p q = judged-by-number a b (same p q)
+
+-- and what a state is checked to be, by its report
+outstanding-by-report : (a b : Outstanding) → outstanding-report a ≡ outstanding-report b → a ≡ b
+outstanding-by-report (Bytes m) (Bytes n) e = ap Bytes (one-value (same-values e))
+outstanding-by-report (Bytes m) Unsound e = absurd (nothing-reported (sym (same-values e)))
+outstanding-by-report Unsound (Bytes n) e = absurd (nothing-reported (same-values e))
+outstanding-by-report Unsound Unsound e = refl
+
+pub check-pinned : {r : Report} (a b : Outstanding) → outstanding-report a ≡ r → outstanding-report b ≡ r → a ≡ b
+check-pinned a b p q = outstanding-by-report a b (same p q)
 
 module _ (d : Desk) where
   pub write-pinned : (w : Write) → Pinned (Writes d w)

@@ -1,6 +1,6 @@
 -- Demand 3, by tape: "With a tape of cut choices fixed beforehand, and every recorded write, flush and cut going by it, the image predicted at each step
 -- is the replay with those choices." `tape-session : TapeRun sheet tape image h d start shown → TapeSession sheet tape image h d start shown`
--- (`proofs/TapeTheorem.antt`). The replay is demand 2's: its history ends each epoch as the tape says.
+-- (`proofs/TapeTheorem.antt`). The replay is that of `Session`: its history ends each epoch as the tape says.
 use Prim.Native.Nat.{ℕ, _+_}
 use mathlib.Core.Path.{_≡_}
 use mathlib.Core.Bool.{cond}
