@@ -109,8 +109,11 @@ done-flush-flushes d p =
 
 -- `flush` of pmemspec_t.rs, power_t.rs and power_v.rs, `self@ == old(self)@`, of the calls. The plain one: by every prophecy that a flush comes, the view after
 -- a done flush is the view before.
+abbrev pub awaiting-a-flush : Desk → (rows : List (List Bool)) → PersistentMemoryRegionView
+awaiting-a-flush d rows = prophecy (chunk-size d) true (view d) rows
+
 pub done-flush-keeps-the-view : (d : Desk) {d′ : Desk} → Flushes d Done d′ → (rows rows′ : List (List Bool)) (flushed : Bool)
-    → prophecy (chunk-size d) flushed (view d′) rows′ ≡ prophecy (chunk-size d) true (view d) rows
+    → prophecy (chunk-size d) flushed (view d′) rows′ ≡ awaiting-a-flush d rows
 done-flush-keeps-the-view d p rows rows′ flushed =
     ap (λ (v : AsyncView). prophecy (chunk-size d) flushed v rows′) (done-flush-flushes d p) ∙ flush-keeps-the-view (chunk-size d) (view d) rows rows′ flushed
 

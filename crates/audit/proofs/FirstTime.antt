@@ -148,6 +148,10 @@ module _ (image log work : List ℕ) (addr val0 val1 rounds : ℕ) (byte0 : val0
   pub first-time-holds : throughout sheet (Session sheet image) (first-time-is-a-run .1)
   first-time-holds = session-throughout sheet image (first-time-is-a-run .1)
 
+-- what a session ends with: this image, and no write outstanding
+abbrev pub ended-with : Lent → (image : List ℕ) → Type 0
+ended-with m image = (m .image ≡ image) × (view (desk-of m) .outstanding-writes ≡ [])
+
 -- skaldrift_run, and a session of linked calls that makes its calls, end alike.
 module _ (image log work : List ℕ) (addr val0 val1 rounds : ℕ) (byte0 : val0 < 2 ^ byte-bits) (byte1 : val1 < 2 ^ byte-bits)
     {image′ log′ work′ : List ℕ} (p : SkaldriftRun image log work addr val0 val1 rounds 0 image′ log′ work′) where
@@ -161,8 +165,7 @@ module _ (image log work : List ℕ) (addr val0 val1 rounds : ℕ) (byte0 : val0
   linked-first-time = (its-run .0, run-is-calls (app-sheet addr val0 val1) (its-run .1))
 
   -- and every one ends with that image and no write outstanding.
-  pub ends-alike : {m : Lent} → Calls (app-sheet addr val0 val1) image (rounds-of addr val0 val1 rounds) m
-      → (m .image ≡ image′) × (view (desk-of m) .outstanding-writes ≡ [])
+  pub ends-alike : {m : Lent} → Calls (app-sheet addr val0 val1) image (rounds-of addr val0 val1 rounds) m → ended-with m image′
   ends-alike {m} calls =
       let theirs = linked-session (app-sheet addr val0 val1) image calls in
       let its = session (app-sheet addr val0 val1) image (its-run .1) in (

@@ -5,7 +5,7 @@ use native.Mathlib.Decide.{decLt}
 use native.Mathlib.Omega.{arith}
 use mathlib.Core.Path.{_≡_, sym, ap₂, subst, _∙_}
 use mathlib.Core.Logic.{_↔_, by-cases}
-use mathlib.Core.Bool.{Bool, true, false}
+use mathlib.Core.Bool.{true, false}
 use mathlib.Core.List.{List, [], _++_}
 use lib.ListN.{length, getD, take, drop, length-drop, take-append-drop, List·getD-eq-default}
 use lib.Seq.{ext-getD, getD-take, getD-drop, drop-drop, length-take-le}
@@ -16,8 +16,7 @@ use Rattle.pieces.specs.Rows.{byte-bits, row-bytes, row-bit, row-at, rows-at, r
 use Rattle.pieces.specs.Choice.{keeps-point}
 use Rattle.pieces.proofs.RowBits.{row-at-bit}
 use Rattle.pieces.proofs.Filling.{filled-exactly}
-use Rattle.cuts.specs.Shape.{has-shape}
-use Rattle.cuts.specs.Packed.{packed-byte, packed-row, packed, are-bytes}
+use Rattle.cuts.specs.Packed.{packed-byte, packed-row, packed, are-bytes, packs-its-rows, packs-some-rows}
 use Rattle.cuts.proofs.Digits.{top-bit-first-of-number}
 use Rattle.cuts.proofs.Packed.{length-packed-row}
 use Rattle.cuts.proofs.Tables.{rows-at-shape, packed-is-right}
@@ -76,14 +75,14 @@ module _ (K : ℕ) (table : List ℕ) (bytes : are-bytes table) where
       sym (rows-again n 0 (eqb-true (length table) (n * row-bytes K) (parts .0) ∙ omega arith) (parts .1))
 
   -- so a table that is right is the packing of its rows, and nothing else is right
-  pub right-exactly : (n : ℕ) → rows-right K n table ≡ true ↔ (table ≡ packed K (rows-at K n table 0))
+  pub right-exactly : (n : ℕ) → rows-right K n table ≡ true ↔ packs-its-rows K n table
   right-exactly n = (
     right-is-packed n,
     λ again. subst (λ t. rows-right K n t ≡ true) (sym again) (packed-is-right K n (rows-at K n table 0) (rows-at-shape K n table 0) .1),
   )
 
   -- nor need the rows be read off the table: any of the right shape will do
-  pub right-is-some-packing : (n : ℕ) → rows-right K n table ≡ true ↔ ((rows : List (List Bool)) × has-shape K n rows × (table ≡ packed K rows))
+  pub right-is-some-packing : (n : ℕ) → rows-right K n table ≡ true ↔ packs-some-rows K n table
   right-is-some-packing n = (
     λ right. (rows-at K n table 0, rows-at-shape K n table 0, right-is-packed n right),
     λ (rows, shape, e). subst (λ t. rows-right K n t ≡ true) (sym e) (packed-is-right K n rows shape .1),

@@ -13,7 +13,7 @@ use Rattle.region.specs.Tab.{inside}
 use Rattle.region.proofs.Booleans.{both}
 use Rattle.region.proofs.Tab.{inside-in, inside-below, inside-above}
 use Rattle.pieces.specs.AsyncSpec.{addr-to-chunk, size-to-chunks}
-use Rattle.pieces.specs.Choice.{touched, touches}
+use Rattle.pieces.specs.Choice.{touched, touches, touched-among}
 use Rattle.pieces.specs.Rows.{set-bits}
 use Rattle.pieces.proofs.ByteBits.{set-bits-add, no-set-bits, all-set-bits}
 
@@ -84,5 +84,5 @@ module _ (C : ℕ) (C⁺ : 0 < C) where
   run-below addr (suc n) L fits = omega (arith, chunk-mono {a = addr} {b = addr + n} (omega arith), chunk-below (addr + n) L (omega arith))
 
   -- `touched` counts them, among the chunks of any image that the write lies in
-  pub touched-counts : (addr n L : ℕ) → addr + n ≤ L → set-bits (touches C addr n) 0 (size-to-chunks C L) ≡ touched C addr n
+  pub touched-counts : (addr n L : ℕ) → addr + n ≤ L → touched-among C addr n L ≡ touched C addr n
   touched-counts addr n L fits = count-inside (addr / C) (touched C addr n) (size-to-chunks C L) (run-below addr n L fits)

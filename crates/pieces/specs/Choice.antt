@@ -5,7 +5,8 @@ use mathlib.Core.List.{List, [], _∷_}
 use lib.Dec.{leb, ltb, eqb}
 use lib.ListN.{length}
 use Rattle.region.specs.Tab.{tab}
-use Rattle.pieces.specs.AsyncSpec.{Write, addr-to-chunk}
+use Rattle.pieces.specs.AsyncSpec.{Write, addr-to-chunk, size-to-chunks}
+use Rattle.pieces.specs.Rows.{set-bits}
 
 -- "A write touches no chunk if it is empty, otherwise those from addr div 8 to (addr+len-1) div 8": how many these are
 unfoldable pub touched : (C addr n : ℕ) → ℕ
@@ -15,6 +16,10 @@ touched C addr (suc n) = suc (addr-to-chunk C (addr + n) - addr-to-chunk C addr)
 -- the touched chunks are a run from the chunk of addr on: those that some byte of the write lies in (`proofs/Touched.antt`)
 abbrev pub touches : (C addr n c : ℕ) → Bool
 touches C addr n c = leb (addr-to-chunk C addr) c && ltb c (addr-to-chunk C addr + touched C addr n)
+
+-- the touched chunks of an image of L bytes, counted one by one: that `touched` is their number is `touched-counts` (`proofs/Touched.antt`)
+abbrev pub touched-among : (C addr n L : ℕ) → ℕ
+touched-among C addr n L = set-bits (touches C addr n) 0 (size-to-chunks C L)
 
 -- "Each touched chunk is one choice point": the number of points of a log
 unfoldable pub points : ℕ → List Write → ℕ
