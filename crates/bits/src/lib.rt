@@ -16,7 +16,7 @@ const BYTE_VALUES: usize = 256;
 const WINDOW_BITS: usize = 3 * BYTE_BITS;
 
 // What taking a field finds: bytes that are cut short, or the field's number and the bit position after it.
-#[derive(Drop)]
+#[derive(Clone, Copy)]
 pub enum Field {
     Malformed,
     Bits { value: usize, next: usize },

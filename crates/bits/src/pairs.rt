@@ -6,7 +6,7 @@ use crate::Field;
 use crate::reader::take_field;
 
 // What taking two fields finds: bytes that are cut short, or both numbers and the bit position after them.
-#[derive(Drop)]
+#[derive(Clone, Copy)]
 pub enum Pair {
     Malformed,
     Both {

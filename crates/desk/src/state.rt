@@ -9,14 +9,14 @@ use records::Record;
 use records::record_list::{record_in, records_with};
 use region::{IMAGE_LIMIT, LOG_LIMIT, WRITES_LIMIT};
 
-#[derive(Drop)]
+#[derive(Clone, Copy)]
 pub struct State {
     pub count: usize,
     pub records: [Record; WRITES_LIMIT],
 }
 
 // The outstanding bytes of a sound state, or that it is none: document 01's 1.
-#[derive(Drop)]
+#[derive(Clone, Copy)]
 pub enum Outstanding {
     Bytes(usize),
     Unsound,

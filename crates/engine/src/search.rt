@@ -10,7 +10,7 @@ use desk::state::State;
 use sheet::{Judged, judge};
 use walks::words::record_words;
 
-#[derive(Drop)]
+#[derive(Clone, Copy)]
 pub enum Outcome {
     AllGood,
     FirstBad(usize),

@@ -9,7 +9,7 @@ use desk::room::recorded;
 use desk::state::{Outstanding, State, checked};
 use region::Refusal;
 
-#[derive(Drop)]
+#[derive(Clone, Copy)]
 pub struct Gated {
     pub verdict: Verdict,
     pub state: State,

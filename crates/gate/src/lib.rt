@@ -8,7 +8,7 @@ use region::Refusal;
 
 // The answer of the judging call and of the gate: n of the write that it admits, the least bad m of
 // one that it denies, or why it judged none. `specs/Judgement.antt` gives each its number.
-#[derive(Drop)]
+#[derive(Clone, Copy)]
 pub enum Verdict {
     Admitted(usize),
     Denied(usize),

@@ -6,7 +6,7 @@ use desk::state::{State, fresh};
 use region::{Answer, IMAGE_LIMIT, LOG_LIMIT, Refusal};
 use sheet::Judged;
 
-#[derive(Drop)]
+#[derive(Clone, Copy)]
 pub struct Opened {
     pub answer: Answer,
     pub state: State,

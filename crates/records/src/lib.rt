@@ -6,7 +6,7 @@
 
 use region::WRITES_LIMIT;
 
-#[derive(Drop)]
+#[derive(Clone, Copy)]
 pub struct Record {
     pub addr: usize,
     pub len: usize,

@@ -4,7 +4,7 @@
 
 // Why a call refused: document 01, "When the desk says no", but for 8, which reports a number and
 // so is a case of the gate's own verdict. `specs/Answer.antt` gives each its number.
-#[derive(Drop)]
+#[derive(Clone, Copy)]
 pub enum Refusal {
     // 1: L over 4096; a record outside L or over the log's budgets; a buffer of another length.
     BadState,
@@ -31,7 +31,7 @@ pub enum Refusal {
 }
 
 // The answer of a call that reports nothing but document 01's number.
-#[derive(Drop)]
+#[derive(Clone, Copy)]
 pub enum Answer {
     Done,
     Refused(Refusal),

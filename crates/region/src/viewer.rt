@@ -7,7 +7,7 @@ ghost use Rattle.region.specs.Viewer.{chosen, viewer_number, Viewed};
 use crate::{Answer, IMAGE_LIMIT, Refusal};
 
 // Which of the two lent images is asked.
-#[derive(Drop)]
+#[derive(Clone, Copy)]
 pub enum Which {
     First,
     Second,

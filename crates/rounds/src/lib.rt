@@ -8,7 +8,7 @@ use region::Refusal;
 
 // The answer of a run: document 01's refusals, and a write that the gate denied, which has a number of
 // its own. `specs/Answer.antt` gives each its number.
-#[derive(Drop)]
+#[derive(Clone, Copy)]
 pub enum RunAnswer {
     Done,
     Refused(Refusal),

@@ -13,7 +13,7 @@ use gate::gate::gate;
 use region::Answer;
 use writelog::flush::flush;
 
-#[derive(Drop)]
+#[derive(Clone, Copy)]
 pub struct Stepped {
     pub state: State,
     pub answer: RunAnswer,

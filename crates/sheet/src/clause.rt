@@ -3,7 +3,7 @@ ghost use Rattle.std.specs.Prelude.{◌≡◌};
 ghost use Rattle.sheet.specs.Sheet.{clause_holds, range, same};
 ghost use Rattle.sheet.specs.Inner.{clause_of};
 
-#[derive(Drop)]
+#[derive(Clone, Copy)]
 pub enum Clause {
     Range {
         address: usize,

@@ -22,7 +22,7 @@ const ADDRESS_BITS: usize = 16;
 const COUNT_BITS: usize = 6;
 
 // What stands before a rule's members, and the bit position after it: a clause, or the head of a group of so many members.
-#[derive(Drop)]
+#[derive(Clone, Copy)]
 pub enum Entry {
     Malformed,
     One {

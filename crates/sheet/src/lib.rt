@@ -23,7 +23,7 @@ const EDITION_BITS: usize = 4;
 const EDITION: usize = 1;
 
 // The sheet says no rule, or the image obeys the rule that it says, or breaks it: document 01's 5, 0 and 6.
-#[derive(Drop)]
+#[derive(Clone, Copy)]
 pub enum Judged {
     Malformed,
     Obeys,

@@ -8,7 +8,7 @@ use crate::clause::clause_holds;
 use crate::entry::{Entry, entry_at};
 
 // What judging finds: no rule that is whole, or one with its truth and the bit position after it.
-#[derive(Drop)]
+#[derive(Clone, Copy)]
 pub enum Step {
     Malformed,
     Good { next: usize, holds: bool },

@@ -16,7 +16,7 @@ use region::chunks::size_to_chunks;
 use region::{Answer, Refusal};
 
 // Document 01's number, the state, and where the next epoch starts.
-#[derive(Drop)]
+#[derive(Clone, Copy)]
 pub struct Ended {
     pub answer: Answer,
     pub state: State,

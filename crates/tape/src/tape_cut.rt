@@ -9,7 +9,7 @@ use region::Answer;
 use walks::kept_count::kept;
 use writelog::cut::CutAnswer;
 
-#[derive(Drop)]
+#[derive(Clone, Copy)]
 pub struct AfterTapeCut {
     pub answer: CutAnswer,
     pub state: State,

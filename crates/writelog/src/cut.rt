@@ -14,13 +14,13 @@ use walks::kept_count::kept;
 use walks::selected::replay_selected;
 
 // The answer of a cut: how many pieces it kept, or why it refused.
-#[derive(Drop)]
+#[derive(Clone, Copy)]
 pub enum CutAnswer {
     Kept(usize),
     Refused(Refusal),
 }
 
-#[derive(Drop)]
+#[derive(Clone, Copy)]
 pub struct AfterCut {
     pub answer: CutAnswer,
     pub state: State,

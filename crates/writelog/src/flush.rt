@@ -6,7 +6,7 @@ use desk::state::{Outstanding, State, checked, emptied};
 use region::{Answer, Refusal};
 use walks::whole::replay_whole;
 
-#[derive(Drop)]
+#[derive(Clone, Copy)]
 pub struct Flushed {
     pub answer: Answer,
     pub state: State,

@@ -8,7 +8,7 @@ use desk::state::{Outstanding, State, checked};
 use records::Record;
 use region::{Answer, Refusal};
 
-#[derive(Drop)]
+#[derive(Clone, Copy)]
 pub struct Written {
     pub answer: Answer,
     pub state: State,
