@@ -37,11 +37,14 @@ module _ (s : List ℕ) where
   spelled_split (x ∷ xs) ys (goes e p) = let q = spelled_split xs ys p in (q.0, goes e q.1, q.2)
 
   -- what stands between two places is one list
+  spelled_between : {xs ys : List ℕ} {at at' next next' : ℕ} → Spelled s at xs next → Spelled s at' ys next' → at ≡ at' → next ≡ next' → xs ≡ ys
+  spelled_between (ends h) (ends k) a n = refl
+  spelled_between (ends h) (goes e q) a n = absurd (omega (arith, (spelled_in q).0))
+  spelled_between (goes e p) (ends h) a n = absurd (omega (arith, (spelled_in p).0))
+  spelled_between (goes d p) (goes e q) a n = rw (sym d, sym e, a, spelled_between p q (ap suc a) n)
+
   spelled_once : {xs ys : List ℕ} {at next : ℕ} → Spelled s at xs next → Spelled s at ys next → xs ≡ ys
-  spelled_once (ends h) (ends k) = refl
-  spelled_once (ends h) (goes e q) = absurd (omega (arith, (spelled_in q).0))
-  spelled_once (goes e p) (ends h) = absurd (omega (arith, (spelled_in p).0))
-  spelled_once (goes d p) (goes e q) = rw (sym d, sym e, spelled_once p q)
+  spelled_once p q = spelled_between p q refl refl
 
   one_bit : (at : ℕ) {b : ℕ} → at < bit_count s → bit s at ≡ b → Spelled s at (b ∷ []) (suc at)
   one_bit at h e = goes e (ends h)

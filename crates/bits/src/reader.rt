@@ -1,6 +1,5 @@
 // A reader over bytes that holds where it stands: a struct with the bytes and a bit position, taken
-// apart to take a field. The borrow checker covers no struct that holds a slice, so these three are
-// proved by hand, each a walk of its MIR; `take_field` is what others call, and they are covered.
+// apart to take a field; `take_field` is what others call.
 // Proved: what is taken is the field that `specs/Bits.antt` reads. Assumed: nothing.
 ghost use Rattle.std.specs.Prelude.{◌≡◌, ◌≤◌, ◌<◌, ◌^◌};
 ghost use Rattle.bits.specs.Bits.{max_width, bit_count, read_field, field_told};
