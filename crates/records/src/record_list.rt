@@ -1,6 +1,5 @@
 // The log as a lent list of write records: a thin lookup and a thin append over a slice of structs,
-// and over them the same of an array by value. The borrow checker covers no slice of structs, so
-// these are proved by hand, each a walk of its MIR; whoever calls the last two is covered.
+// and over them the same of an array by value.
 ghost use Rattle.std.specs.Prelude.{◌≡◌, ltb, length, get_or, set};
 ghost use Rattle.records.specs.Record.{no_record};
 
