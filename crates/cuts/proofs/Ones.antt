@@ -46,7 +46,8 @@ bits_of_number f from (suc n) m a =
     bits_of_number f (suc from) n (m / 2) (λ k h. ap f (suc-add from k ∙ sym (add-suc from k)) ∙ a (suc k) (omega arith) ∙ bit_suc m k) in
     let low : cond (f from) 1 0 ≡ m % 2 =
     ap (λ t. cond t 1 0) (ap f (sym (add-zero from)) ∙ a 0 (omega arith)) ∙ rw div-one (lowest_digit (m % 2) (mod-lt m (lit< tt))) in
-    rw (shr_suc m n, rest, low) (omega arith)
+    let whole : bits_below (m / 2 / 2 ^ n) f from (suc n) ≡ m = omega (arith, rest, low) in
+    ap (λ (x : ℕ). bits_below x f from (suc n)) (shr_suc m n) ∙ whole
 
 module _ (C K : ℕ) where
   -- where every touched chunk has its bit, a number's rows have that number
