@@ -1,0 +1,5 @@
+-- One write falls away at each step.
+use Rattle.walks.proofs.selected.+selected_from.Given as goal
+
+abbrev pub decreases-selected_from : goal.decreases-selected_from
+decreases-selected_from l = l.left
