@@ -1,7 +1,7 @@
 -- The read and its companion question. Document 01: "A read fills a lent working image of L bytes with the read image and hands back the asked part
 -- of the working image"; it meets 1 and 2.
 use Rattle.std.specs.Prelude.{ℕ, ◌+◌, ◌≡◌, ◌&&◌, List, [], leb, eqb, length}
-use Rattle.std.specs.Borrow.{Bor}
+use Rattle.std.specs.Borrow.{MutBor}
 use Rattle.region.specs.Pmemspec.{extract_bytes}
 use Rattle.region.specs.Answer.{answer_number, unless, if_done}
 use Rattle.region.specs.declared.Answer.{Answer}
@@ -27,11 +27,11 @@ pub record Fills (d : Desk) (work : List ℕ) (addr len : ℕ) (answer : Answer)
 
 -- What the read promises of the part that it hands back: it is the caller's own memory, the same block and that far into it, and holds the asked
 -- bytes of the read image. "On any refusal the part is empty"; it then stands at the working image's first byte.
-module _ (d : Desk) (work : Bor (List ℕ)) (addr len : ℕ) where
+module _ (d : Desk) (work : MutBor (List ℕ)) (addr len : ℕ) where
   abbrev number : ℕ
   number = read_number d work.now addr len
 
-  pub record HandsBack (part : Bor (List ℕ)) : Type 0 where
+  pub record HandsBack (part : MutBor (List ℕ)) : Type 0 where
     pub block : part.ref_ptr.0 ≡ work.ref_ptr.0
     pub offset : part.ref_ptr.1 ≡ work.ref_ptr.1 + if_done number addr 0
     pub bytes : part.now ≡ if_done number (extract_bytes (readable (view d)) addr len) []
