@@ -2,23 +2,25 @@
 use crate::fill::log;
 use crate::print::{end, image_bytes, log_bytes, number, work_bytes};
 use skaldrift::example_calls::{skaldrift_run, skaldrift_setup};
+use std::io;
 
-fn setup(image: &mut [u8], addr: u64, val0: u8) {
+fn setup(rt: &impl Print, image: &mut [u8], addr: u64, val0: u8) -> io::Result<()> {
     let answer = skaldrift_setup(image, addr, val0);
-    number(b"setup", answer);
-    image_bytes(image);
-    end();
+    number(rt, "setup", answer)?;
+    image_bytes(rt, image)?;
+    end(rt)
 }
 
-fn setup_0() {
-    setup(&mut [243, 107, 111, 95, 180, 69, 79], 6, 2);
+fn setup_0(rt: &impl Print) -> io::Result<()> {
+    setup(rt, &mut [243, 107, 111, 95, 180, 69, 79], 6, 2)
 }
 
-fn setup_2() {
-    setup(&mut [0, 0], 18446744073709551614, 175);
+fn setup_2(rt: &impl Print) -> io::Result<()> {
+    setup(rt, &mut [0, 0], 18446744073709551614, 175)
 }
 
 fn run(
+    rt: &impl Print,
     image: &mut [u8],
     mut log: [u8; 1024],
     work: &mut [u8],
@@ -26,17 +28,18 @@ fn run(
     val0: u8,
     val1: u8,
     rounds: u64,
-) {
+) -> io::Result<()> {
     let answer = skaldrift_run(image, &mut log, work, addr, val0, val1, rounds);
-    number(b"run", answer);
-    image_bytes(image);
-    log_bytes(&log);
-    work_bytes(work);
-    end();
+    number(rt, "run", answer)?;
+    image_bytes(rt, image)?;
+    log_bytes(rt, &log)?;
+    work_bytes(rt, work)?;
+    end(rt)
 }
 
-fn run_0() {
+fn run_0(rt: &impl Print) -> io::Result<()> {
     run(
+        rt,
         &mut [1, 1, 1, 0, 1, 1, 122],
         log(&[]),
         &mut [0, 1, 0, 1, 1, 1, 1],
@@ -44,11 +47,12 @@ fn run_0() {
         122,
         50,
         2,
-    );
+    )
 }
 
-fn run_6() {
+fn run_6(rt: &impl Print) -> io::Result<()> {
     run(
+        rt,
         &mut [235, 103, 143, 228, 71, 176, 89, 14, 151],
         log(&[]),
         &mut [3, 0, 0, 3, 3, 2, 1, 0, 2],
@@ -56,12 +60,12 @@ fn run_6() {
         24,
         162,
         1,
-    );
+    )
 }
 
-pub fn replay() {
-    setup_0();
-    setup_2();
-    run_0();
-    run_6();
+pub fn replay(rt: &impl Print) -> io::Result<()> {
+    setup_0(rt)?;
+    setup_2(rt)?;
+    run_0(rt)?;
+    run_6(rt)
 }

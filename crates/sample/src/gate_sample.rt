@@ -2,33 +2,43 @@
 use crate::fill::{log, state};
 use crate::print::{end, log_bytes, number, report_number, state_words, work_bytes};
 use skaldrift::gate_calls::{skaldrift_gate, skaldrift_judge, skaldrift_open};
+use std::io;
 
-fn open(mut state: [u64; 65], image: &[u8], log: [u8; 1024], sheet: &[u8]) {
+fn open(
+    rt: &impl Print,
+    mut state: [u64; 65],
+    image: &[u8],
+    log: [u8; 1024],
+    sheet: &[u8],
+) -> io::Result<()> {
     let answer = skaldrift_open(&mut state, image, &log, sheet);
-    number(b"open", answer);
-    state_words(&state);
-    end();
+    number(rt, "open", answer)?;
+    state_words(rt, &state)?;
+    end(rt)
 }
 
-fn open_0() {
+fn open_0(rt: &impl Print) -> io::Result<()> {
     open(
+        rt,
         state(&[34]),
         &[1, 0, 0, 1, 1, 1, 0, 1, 0, 0, 0, 0, 0, 0, 1, 1, 1, 1],
         log(&[]),
         &[20, 0, 20, 0, 20],
-    );
+    )
 }
 
-fn open_6() {
+fn open_6(rt: &impl Print) -> io::Result<()> {
     open(
+        rt,
         state(&[1]),
         &[],
         log(&[]),
         &[28, 32, 0, 0, 0, 12, 0, 0, 0, 0],
-    );
+    )
 }
 
 fn judge(
+    rt: &impl Print,
     state: [u64; 65],
     image: &[u8],
     log: [u8; 1024],
@@ -37,16 +47,17 @@ fn judge(
     addr: u64,
     data: &[u8],
     mut report: u64,
-) {
+) -> io::Result<()> {
     let answer = skaldrift_judge(&state, image, &log, sheet, work, addr, data, &mut report);
-    number(b"judge", answer);
-    work_bytes(work);
-    report_number(report);
-    end();
+    number(rt, "judge", answer)?;
+    work_bytes(rt, work)?;
+    report_number(rt, report)?;
+    end(rt)
 }
 
-fn judge_0() {
+fn judge_0(rt: &impl Print) -> io::Result<()> {
     judge(
+        rt,
         state(&[]),
         &[0; 18],
         log(&[]),
@@ -55,11 +66,12 @@ fn judge_0() {
         14,
         &[1, 0, 0],
         16045481050594344959,
-    );
+    )
 }
 
-fn judge_8() {
+fn judge_8(rt: &impl Print) -> io::Result<()> {
     judge(
+        rt,
         state(&[2, 1, 0, 1]),
         &[1],
         log(&[]),
@@ -68,10 +80,11 @@ fn judge_8() {
         0,
         &[0],
         16045481050594344959,
-    );
+    )
 }
 
 fn gate(
+    rt: &impl Print,
     mut state: [u64; 65],
     image: &[u8],
     mut log: [u8; 1024],
@@ -80,7 +93,7 @@ fn gate(
     addr: u64,
     data: &[u8],
     mut report: u64,
-) {
+) -> io::Result<()> {
     let answer = skaldrift_gate(
         &mut state,
         image,
@@ -91,16 +104,17 @@ fn gate(
         data,
         &mut report,
     );
-    number(b"gate", answer);
-    state_words(&state);
-    log_bytes(&log);
-    work_bytes(work);
-    report_number(report);
-    end();
+    number(rt, "gate", answer)?;
+    state_words(rt, &state)?;
+    log_bytes(rt, &log)?;
+    work_bytes(rt, work)?;
+    report_number(rt, report)?;
+    end(rt)
 }
 
-fn gate_0() {
+fn gate_0(rt: &impl Print) -> io::Result<()> {
     gate(
+        rt,
         state(&[4, 1, 1, 0, 0, 1, 1, 2]),
         &[158, 114],
         log(&[1, 1]),
@@ -109,11 +123,12 @@ fn gate_0() {
         1,
         &[3],
         16045481050594344959,
-    );
+    )
 }
 
-fn gate_8() {
+fn gate_8(rt: &impl Print) -> io::Result<()> {
     gate(
+        rt,
         state(&[1, 1, 1]),
         &[1, 0],
         log(&[1]),
@@ -122,14 +137,14 @@ fn gate_8() {
         0,
         &[0],
         16045481050594344959,
-    );
+    )
 }
 
-pub fn replay() {
-    open_0();
-    open_6();
-    judge_0();
-    judge_8();
-    gate_0();
-    gate_8();
+pub fn replay(rt: &impl Print) -> io::Result<()> {
+    open_0(rt)?;
+    open_6(rt)?;
+    judge_0(rt)?;
+    judge_8(rt)?;
+    gate_0(rt)?;
+    gate_8(rt)
 }

@@ -2,21 +2,30 @@
 use crate::fill::{log, state};
 use crate::print::{end, image_bytes, log_bytes, number, report_number, state_words, work_bytes};
 use skaldrift::log_calls::{skaldrift_cut, skaldrift_flush, skaldrift_read, skaldrift_write};
+use std::io;
 
-fn write(mut state: [u64; 65], image: &[u8], mut log: [u8; 1024], addr: u64, data: &[u8]) {
+fn write(
+    rt: &impl Print,
+    mut state: [u64; 65],
+    image: &[u8],
+    mut log: [u8; 1024],
+    addr: u64,
+    data: &[u8],
+) -> io::Result<()> {
     let answer = skaldrift_write(&mut state, image, &mut log, addr, data);
-    number(b"write", answer);
-    state_words(&state);
-    log_bytes(&log);
-    end();
+    number(rt, "write", answer)?;
+    state_words(rt, &state)?;
+    log_bytes(rt, &log)?;
+    end(rt)
 }
 
-fn write_0() {
-    write(state(&[]), &[67, 175], log(&[]), 0, &[3, 1]);
+fn write_0(rt: &impl Print) -> io::Result<()> {
+    write(rt, state(&[]), &[67, 175], log(&[]), 0, &[3, 1])
 }
 
-fn write_4() {
+fn write_4(rt: &impl Print) -> io::Result<()> {
     write(
+        rt,
         state(&[
             10, 93, 103, 87, 103, 8, 103, 72, 103, 15, 103, 25, 103, 86, 103, 37, 104, 6, 103, 58,
             96,
@@ -27,96 +36,116 @@ fn write_4() {
         ]),
         6,
         &[0, 3],
-    );
+    )
 }
 
-fn read(state: [u64; 65], image: &[u8], log: [u8; 1024], work: &mut [u8], addr: u64, len: u64) {
+fn read(
+    rt: &impl Print,
+    state: [u64; 65],
+    image: &[u8],
+    log: [u8; 1024],
+    work: &mut [u8],
+    addr: u64,
+    len: u64,
+) -> io::Result<()> {
     let answer = skaldrift_read(&state, image, &log, work, addr, len);
-    number(b"read", answer);
-    work_bytes(work);
-    end();
+    number(rt, "read", answer)?;
+    work_bytes(rt, work)?;
+    end(rt)
 }
 
-fn read_0() {
+fn read_0(rt: &impl Print) -> io::Result<()> {
     read(
+        rt,
         state(&[2, 7, 1, 8]),
         &[0, 0, 1, 0, 0, 0, 0, 0],
         log(&[]),
         &mut [0, 1, 0, 1, 1, 0, 0, 1],
         7,
         1,
-    );
+    )
 }
 
-fn read_2() {
+fn read_2(rt: &impl Print) -> io::Result<()> {
     read(
+        rt,
         state(&[1, 6]),
         &[0, 1, 1, 1, 0, 0, 0, 1],
         log(&[]),
         &mut [0, 0, 0, 0, 0, 0, 0, 0],
         18446744073709551615,
         0,
-    );
+    )
 }
 
-fn flush(mut state: [u64; 65], image: &mut [u8], log: &[u8]) {
+fn flush(rt: &impl Print, mut state: [u64; 65], image: &mut [u8], log: &[u8]) -> io::Result<()> {
     let answer = skaldrift_flush(&mut state, image, log);
-    number(b"flush", answer);
-    state_words(&state);
-    image_bytes(image);
-    end();
+    number(rt, "flush", answer)?;
+    state_words(rt, &state)?;
+    image_bytes(rt, image)?;
+    end(rt)
 }
 
-fn flush_0() {
-    flush(state(&[]), &mut [0, 0, 0, 0, 0, 0, 0, 0], &[0; 1024]);
+fn flush_0(rt: &impl Print) -> io::Result<()> {
+    flush(rt, state(&[]), &mut [0, 0, 0, 0, 0, 0, 0, 0], &[0; 1024])
 }
 
-fn flush_1() {
+fn flush_1(rt: &impl Print) -> io::Result<()> {
     flush(
+        rt,
         state(&[3, 11, 3, 8, 4, 4, 3]),
         &mut [
             247, 95, 113, 30, 129, 91, 19, 129, 235, 182, 106, 185, 58, 196, 134, 65,
         ],
         &[],
-    );
+    )
 }
 
-fn cut(mut state: [u64; 65], image: &mut [u8], log: [u8; 1024], rows: &[u8], mut report: u64) {
+fn cut(
+    rt: &impl Print,
+    mut state: [u64; 65],
+    image: &mut [u8],
+    log: [u8; 1024],
+    rows: &[u8],
+    mut report: u64,
+) -> io::Result<()> {
     let answer = skaldrift_cut(&mut state, image, &log, rows, &mut report);
-    number(b"cut", answer);
-    state_words(&state);
-    image_bytes(image);
-    report_number(report);
-    end();
+    number(rt, "cut", answer)?;
+    state_words(rt, &state)?;
+    image_bytes(rt, image)?;
+    report_number(rt, report)?;
+    end(rt)
 }
 
-fn cut_0() {
+fn cut_0(rt: &impl Print) -> io::Result<()> {
     cut(
+        rt,
         state(&[3, 15, 3, 24, 2, 55, 4]),
         &mut [0; 63],
         log(&[0, 0, 1, 155, 219, 1, 0, 2]),
         &[0, 27, 26],
         16045481050594344959,
-    );
+    )
 }
 
-fn cut_9() {
+fn cut_9(rt: &impl Print) -> io::Result<()> {
     cut(
+        rt,
         state(&[1]),
         &mut [0, 3, 2, 2, 1, 3, 3],
         log(&[]),
         &[],
         16747018134532354844,
-    );
+    )
 }
 
-pub fn replay() {
-    write_0();
-    write_4();
-    read_0();
-    read_2();
-    flush_0();
-    flush_1();
-    cut_0();
-    cut_9();
+pub fn replay(rt: &impl Print) -> io::Result<()> {
+    write_0(rt)?;
+    write_4(rt)?;
+    read_0(rt)?;
+    read_2(rt)?;
+    flush_0(rt)?;
+    flush_1(rt)?;
+    cut_0(rt)?;
+    cut_9(rt)
 }

@@ -1,79 +1,72 @@
 // How an outcome is printed: its number, and each lent buffer as its places that are not zero.
-use io::print_decimal;
-use libc::STDOUT_FILENO;
+use std::io;
 
-fn text(s: &[u8]) {
-    io::write_all(STDOUT_FILENO, s);
+fn text(rt: &impl Print, s: &str) -> io::Result<()> {
+    print!(rt; "{s}")
 }
 
-fn place(i: usize, value: u64) {
+fn place(rt: &impl Print, i: usize, value: u64) -> io::Result<()> {
     if value != 0 {
-        text(b" ");
-        print_decimal(STDOUT_FILENO, i as u64);
-        text(b"=");
-        print_decimal(STDOUT_FILENO, value);
+        print!(rt; " {i}={value}")?;
     }
+    Ok(())
 }
 
-fn byte(i: usize, value: u8) {
-    place(i, value as u64);
+fn byte(rt: &impl Print, i: usize, value: u8) -> io::Result<()> {
+    place(rt, i, value as u64)
 }
 
-fn bytes(s: &[u8]) {
-    let mut i = 0;
-    while i < s.len() {
-        byte(i, s[i]);
-        i += 1;
+fn bytes(rt: &impl Print, s: &[u8]) -> io::Result<()> {
+    for (i, value) in s.iter().enumerate() {
+        byte(rt, i, *value)?;
     }
+    Ok(())
 }
 
-fn words(s: &[u64]) {
-    let mut i = 0;
-    while i < s.len() {
-        place(i, s[i]);
-        i += 1;
+fn words(rt: &impl Print, s: &[u64]) -> io::Result<()> {
+    for (i, value) in s.iter().enumerate() {
+        place(rt, i, *value)?;
     }
+    Ok(())
 }
 
-pub fn number(name: &[u8], n: u64) {
-    text(name);
-    text(b" ");
-    print_decimal(STDOUT_FILENO, n);
+pub fn number(rt: &impl Print, name: &str, n: u64) -> io::Result<()> {
+    print!(rt; "{name} {n}")
 }
 
-pub fn state_words(state: &[u64]) {
-    text(b" state");
-    words(state);
+pub fn state_words(rt: &impl Print, state: &[u64]) -> io::Result<()> {
+    text(rt, " state")?;
+    words(rt, state)
 }
 
-pub fn image_bytes(image: &[u8]) {
-    text(b" image");
-    bytes(image);
+pub fn image_bytes(rt: &impl Print, image: &[u8]) -> io::Result<()> {
+    text(rt, " image")?;
+    bytes(rt, image)
 }
 
-pub fn log_bytes(log: &[u8]) {
-    text(b" log");
-    bytes(log);
+pub fn log_bytes(rt: &impl Print, log: &[u8]) -> io::Result<()> {
+    text(rt, " log")?;
+    bytes(rt, log)
 }
 
-pub fn predicted_bytes(predicted: &[u8]) {
-    text(b" predicted");
-    bytes(predicted);
+pub fn predicted_bytes(rt: &impl Print, predicted: &[u8]) -> io::Result<()> {
+    text(rt, " predicted")?;
+    bytes(rt, predicted)
 }
 
-pub fn work_bytes(work: &[u8]) {
-    text(b" work");
-    bytes(work);
+pub fn work_bytes(rt: &impl Print, work: &[u8]) -> io::Result<()> {
+    text(rt, " work")?;
+    bytes(rt, work)
 }
 
-pub fn start_number(start: u64) {
-    number(b" start", start);
+pub fn start_number(rt: &impl Print, start: u64) -> io::Result<()> {
+    number(rt, " start", start)
 }
 
-pub fn report_number(report: u64) {
-    number(b" report", report);
+pub fn report_number(rt: &impl Print, report: u64) -> io::Result<()> {
+    number(rt, " report", report)
 }
 
-pub fn end() {
-    text(b"\n");
+pub fn end(rt: &impl Print) -> io::Result<()> {
+    println!(rt)
 }

@@ -7,8 +7,7 @@ use region::numbers::answer_number;
 use rounds::numbers::run_answer_number;
 
 // Makes the byte at `addr` val0, and leaves every other byte.
-#[unsafe(no_mangle)]
-pub extern "C" fn skaldrift_setup(image: &mut [u8], addr: u64, val0: u8) -> u64
+pub fn skaldrift_setup(image: &mut [u8], addr: u64, val0: u8) -> u64
     ensures { SkaldriftSetup image.old addr val0 result image.new }
 {
     let answer = setup(image, addr as usize, val0);
@@ -16,8 +15,7 @@ pub extern "C" fn skaldrift_setup(image: &mut [u8], addr: u64, val0: u8) -> u64
 }
 
 // Opens the image under the example's sheet, and goes the rounds.
-#[unsafe(no_mangle)]
-pub extern "C" fn skaldrift_run(
+pub fn skaldrift_run(
     image: &mut [u8],
     log: &mut [u8],
     work: &mut [u8],

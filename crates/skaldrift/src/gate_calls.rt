@@ -12,8 +12,7 @@ use region::Refusal;
 use region::numbers::{answer_number, refusal_number};
 
 // Judges the image and starts an empty log. Of the state only its length is looked at.
-#[unsafe(no_mangle)]
-pub extern "C" fn skaldrift_open(state: &mut [u64], image: &[u8], log: &[u8], sheet: &[u8]) -> u64
+pub fn skaldrift_open(state: &mut [u64], image: &[u8], log: &[u8], sheet: &[u8]) -> u64
     ensures { SkaldriftOpen
         (lent image.now state.old log.now)
         sheet.now result
@@ -30,8 +29,7 @@ pub extern "C" fn skaldrift_open(state: &mut [u64], image: &[u8], log: &[u8], sh
 }
 
 // What the gate would answer, and the working image that it would leave. Records nothing.
-#[unsafe(no_mangle)]
-pub extern "C" fn skaldrift_judge(
+pub fn skaldrift_judge(
     state: &[u64],
     image: &[u8],
     log: &[u8],
@@ -55,8 +53,7 @@ pub extern "C" fn skaldrift_judge(
 }
 
 // Judges a write of `data` at `addr`, and records it if it is admitted.
-#[unsafe(no_mangle)]
-pub extern "C" fn skaldrift_gate(
+pub fn skaldrift_gate(
     state: &mut [u64],
     image: &[u8],
     log: &mut [u8],

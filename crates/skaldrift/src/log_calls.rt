@@ -15,16 +15,14 @@ use writelog::read::read_fill;
 use writelog::write::write;
 
 // The words of a state: the length that every other function asks of `state`.
-#[unsafe(no_mangle)]
-pub extern "C" fn skaldrift_state_words() -> u64
+pub fn skaldrift_state_words() -> u64
     ensures { result ≡ state_words }
 {
     state_words() as u64
 }
 
 // Records a write of `data` at `addr`, judged by nobody.
-#[unsafe(no_mangle)]
-pub extern "C" fn skaldrift_write(
+pub fn skaldrift_write(
     state: &mut [u64],
     image: &[u8],
     log: &mut [u8],
@@ -47,8 +45,7 @@ pub extern "C" fn skaldrift_write(
 }
 
 // Fills the working image with the read image. The asked part is the caller's to take: work[addr..addr + len].
-#[unsafe(no_mangle)]
-pub extern "C" fn skaldrift_read(
+pub fn skaldrift_read(
     state: &[u64],
     image: &[u8],
     log: &[u8],
@@ -67,8 +64,7 @@ pub extern "C" fn skaldrift_read(
 }
 
 // Makes the read image the image, and empties the log.
-#[unsafe(no_mangle)]
-pub extern "C" fn skaldrift_flush(state: &mut [u64], image: &mut [u8], log: &[u8]) -> u64
+pub fn skaldrift_flush(state: &mut [u64], image: &mut [u8], log: &[u8]) -> u64
     ensures { SkaldriftFlush
         (lent image.old state.old log.now) result
         (lent image.new state.new log.now) }
@@ -84,8 +80,7 @@ pub extern "C" fn skaldrift_flush(state: &mut [u64], image: &mut [u8], log: &[u8
 }
 
 // Makes the replay with the rows the image, and empties the log.
-#[unsafe(no_mangle)]
-pub extern "C" fn skaldrift_cut(
+pub fn skaldrift_cut(
     state: &mut [u64],
     image: &mut [u8],
     log: &[u8],

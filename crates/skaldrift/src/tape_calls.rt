@@ -12,8 +12,7 @@ use tape::tape_flush::tape_flush;
 use tape::tape_write::tape_write;
 
 // Records a write of `data` at `addr`, judged by nobody, and predicts the image with it.
-#[unsafe(no_mangle)]
-pub extern "C" fn skaldrift_tape_write(
+pub fn skaldrift_tape_write(
     state: &mut [u64],
     image: &[u8],
     log: &mut [u8],
@@ -48,8 +47,7 @@ pub extern "C" fn skaldrift_tape_write(
 }
 
 // Makes the read image the image, where the tape foretells it, and empties the log.
-#[unsafe(no_mangle)]
-pub extern "C" fn skaldrift_tape_flush(
+pub fn skaldrift_tape_flush(
     state: &mut [u64],
     image: &mut [u8],
     log: &[u8],
@@ -74,8 +72,7 @@ pub extern "C" fn skaldrift_tape_flush(
 }
 
 // Makes the predicted image the image, where the tape foretells a cut, and empties the log.
-#[unsafe(no_mangle)]
-pub extern "C" fn skaldrift_tape_cut(
+pub fn skaldrift_tape_cut(
     state: &mut [u64],
     image: &mut [u8],
     log: &[u8],

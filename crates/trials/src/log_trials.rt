@@ -3,6 +3,7 @@ use crate::print::{bytes, cut_answer, end, name, number, seen};
 use desk::state::{State, fresh};
 use records::Record;
 use region::numbers::answer_number;
+use std::io;
 use writelog::cut::cut;
 use writelog::flush::flush;
 use writelog::read::{read, read_number};
@@ -16,72 +17,75 @@ pub fn two_writes(log: &mut [u8]) -> State {
     second.state
 }
 
-fn read_trial() {
+fn read_trial(rt: &impl Print) -> io::Result<()> {
     let image = [0u8; 16];
     let mut log = [0u8; 1024];
     let state = two_writes(&mut log);
     let mut work = [0xEEu8; 16];
-    name(b"read");
-    number(answer_number(read_number(state, &image, &log, &work, 6, 4)));
+    name(rt, "read")?;
+    number(
+        rt,
+        answer_number(read_number(state, &image, &log, &work, 6, 4)),
+    )?;
     let part = read(state, &image, &log, &mut work, 6, 4);
-    bytes(&part[..]);
-    end();
+    bytes(rt, &part[..])?;
+    end(rt)
 }
 
-fn flush_trial() {
+fn flush_trial(rt: &impl Print) -> io::Result<()> {
     let mut image = [0u8; 16];
     let mut log = [0u8; 1024];
     let state = two_writes(&mut log);
     let after = flush(state, &mut image, &log);
-    name(b"flush");
+    name(rt, "flush")?;
     let answer = after.answer;
-    number(answer_number(answer));
-    seen(&image);
+    number(rt, answer_number(answer))?;
+    seen(rt, &image)
 }
 
-fn cut_trial(rows: &[u8]) {
+fn cut_trial(rt: &impl Print, rows: &[u8]) -> io::Result<()> {
     let mut image = [0u8; 16];
     let mut log = [0u8; 1024];
     let state = two_writes(&mut log);
     let after = cut(state, &mut image, &log, rows);
     let answer = after.answer;
-    name(b"cut");
-    bytes(rows);
-    name(b" :");
-    cut_answer(answer);
-    seen(&image);
+    name(rt, "cut")?;
+    bytes(rt, rows)?;
+    name(rt, " :")?;
+    cut_answer(rt, answer)?;
+    seen(rt, &image)
 }
 
-fn write_number(image: &[u8], addr: usize, data: &[u8]) {
+fn write_number(rt: &impl Print, image: &[u8], addr: usize, data: &[u8]) -> io::Result<()> {
     let mut log = [0u8; 1024];
     let after = write(fresh(), image, &mut log, addr, data);
     let answer = after.answer;
-    number(answer_number(answer));
+    number(rt, answer_number(answer))
 }
 
 // L = 4096 at its ends, and an address whose sum would wrap.
-fn ends_trial() {
+fn ends_trial(rt: &impl Print) -> io::Result<()> {
     let image = [0u8; 4096];
-    name(b"ends of 4096");
-    write_number(&image, 4096, &[]);
-    write_number(&image, 4097, &[]);
-    write_number(&image, 4095, &[1]);
-    write_number(&image, 4096, &[1]);
-    write_number(&image, 0xffff_ffff_ffff_ffff, &[1, 2]);
-    end();
+    name(rt, "ends of 4096")?;
+    write_number(rt, &image, 4096, &[])?;
+    write_number(rt, &image, 4097, &[])?;
+    write_number(rt, &image, 4095, &[1])?;
+    write_number(rt, &image, 4096, &[1])?;
+    write_number(rt, &image, 0xffff_ffff_ffff_ffff, &[1, 2])?;
+    end(rt)?;
     let long = [0u8; 4097];
-    name(b"image of 4097");
-    write_number(&long, 0, &[1]);
-    end();
-    name(b"image of 0");
-    write_number(&[], 0, &[]);
-    write_number(&[], 1, &[]);
-    write_number(&[], 0, &[1]);
-    end();
+    name(rt, "image of 4097")?;
+    write_number(rt, &long, 0, &[1])?;
+    end(rt)?;
+    name(rt, "image of 0")?;
+    write_number(rt, &[], 0, &[])?;
+    write_number(rt, &[], 1, &[])?;
+    write_number(rt, &[], 0, &[1])?;
+    end(rt)
 }
 
 // With 31 empty writes outstanding there is room for one more, and then for none.
-fn thirty_three_trial() {
+fn thirty_three_trial(rt: &impl Print) -> io::Result<()> {
     let image = [0u8; 16];
     let mut log = [0u8; 1024];
     let state = State {
@@ -90,60 +94,60 @@ fn thirty_three_trial() {
     };
     let first = write(state, &image, &mut log, 16, &[]);
     let more = write(first.state, &image, &mut log, 16, &[]);
-    name(b"33rd write");
+    name(rt, "33rd write")?;
     let done = first.answer;
-    number(answer_number(done));
+    number(rt, answer_number(done))?;
     let refused = more.answer;
-    number(answer_number(refused));
-    end();
+    number(rt, answer_number(refused))?;
+    end(rt)
 }
 
 // 1024 bytes fill the log; one byte more is refused, and an empty write is not.
-fn bytes_trial() {
+fn bytes_trial(rt: &impl Print) -> io::Result<()> {
     let image = [0u8; 4096];
     let mut log = [0u8; 1024];
     let full = [7u8; 1024];
     let first = write(fresh(), &image, &mut log, 0, &full);
     let more = write(first.state, &image, &mut log, 0, &[1]);
     let none = write(more.state, &image, &mut log, 0, &[]);
-    name(b"byte 1025");
+    name(rt, "byte 1025")?;
     let done = first.answer;
-    number(answer_number(done));
+    number(rt, answer_number(done))?;
     let refused = more.answer;
-    number(answer_number(refused));
+    number(rt, answer_number(refused))?;
     let done = none.answer;
-    number(answer_number(done));
-    end();
+    number(rt, answer_number(done))?;
+    end(rt)
 }
 
 // An empty write uses a record and a row.
-fn empty_write_trial(rows: &[u8]) {
+fn empty_write_trial(rt: &impl Print, rows: &[u8]) -> io::Result<()> {
     let mut image = [0u8; 16];
     let mut log = [0u8; 1024];
     let written = write(fresh(), &image, &mut log, 5, &[]);
     let after = cut(written.state, &mut image, &log, rows);
     let answer = after.answer;
-    name(b"empty write, rows");
-    bytes(rows);
-    name(b" :");
-    cut_answer(answer);
-    end();
+    name(rt, "empty write, rows")?;
+    bytes(rt, rows)?;
+    name(rt, " :")?;
+    cut_answer(rt, answer)?;
+    end(rt)
 }
 
-pub fn run() {
-    read_trial();
-    flush_trial();
-    cut_trial(&[0x80, 0x40]);
-    cut_trial(&[0x40, 0x80]);
-    cut_trial(&[0xC0, 0x00]);
-    cut_trial(&[0xC0, 0xC0]);
-    cut_trial(&[0x00, 0x00]);
-    cut_trial(&[0xA0, 0x40]);
-    cut_trial(&[0x80]);
-    cut_trial(&[0x80, 0x40, 0x00]);
-    ends_trial();
-    thirty_three_trial();
-    bytes_trial();
-    empty_write_trial(&[]);
-    empty_write_trial(&[0xC0]);
+pub fn run(rt: &impl Print) -> io::Result<()> {
+    read_trial(rt)?;
+    flush_trial(rt)?;
+    cut_trial(rt, &[0x80, 0x40])?;
+    cut_trial(rt, &[0x40, 0x80])?;
+    cut_trial(rt, &[0xC0, 0x00])?;
+    cut_trial(rt, &[0xC0, 0xC0])?;
+    cut_trial(rt, &[0x00, 0x00])?;
+    cut_trial(rt, &[0xA0, 0x40])?;
+    cut_trial(rt, &[0x80])?;
+    cut_trial(rt, &[0x80, 0x40, 0x00])?;
+    ends_trial(rt)?;
+    thirty_three_trial(rt)?;
+    bytes_trial(rt)?;
+    empty_write_trial(rt, &[])?;
+    empty_write_trial(rt, &[0xC0])
 }

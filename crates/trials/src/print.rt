@@ -1,67 +1,63 @@
 // What the trials print: a name, numbers, bytes in hex, and the answers by their numbers.
 use gate::Verdict;
-use io::{print_decimal, print_hex};
-use libc::STDOUT_FILENO;
 use region::numbers::refusal_number;
+use std::io;
 use writelog::cut::CutAnswer;
 
-pub fn name(text: &[u8]) {
-    io::write_all(STDOUT_FILENO, text);
+pub fn name(rt: &impl Print, text: &str) -> io::Result<()> {
+    print!(rt; "{text}")
 }
 
-pub fn number(n: u64) {
-    io::write_all(STDOUT_FILENO, b" ");
-    print_decimal(STDOUT_FILENO, n);
+pub fn number(rt: &impl Print, n: u64) -> io::Result<()> {
+    print!(rt; " {n}")
 }
 
-pub fn end() {
-    io::write_all(STDOUT_FILENO, b"\n");
+pub fn end(rt: &impl Print) -> io::Result<()> {
+    println!(rt)
 }
 
-pub fn byte(b: u8) {
-    io::write_all(STDOUT_FILENO, b" ");
-    print_hex(STDOUT_FILENO, b as u64, 2);
+pub fn byte(rt: &impl Print, b: u8) -> io::Result<()> {
+    print!(rt; " {b:02x}")
 }
 
 // The bytes of a slice in hex.
-pub fn bytes(s: &[u8]) {
-    let mut i = 0;
-    while i < s.len() {
-        byte(s[i]);
-        i += 1;
+pub fn bytes(rt: &impl Print, s: &[u8]) -> io::Result<()> {
+    for b in s {
+        byte(rt, *b)?;
     }
+    Ok(())
 }
 
 // Bytes 6 to 9 of an image.
-pub fn seen(image: &[u8]) {
+pub fn seen(rt: &impl Print, image: &[u8]) -> io::Result<()> {
     if 10 <= image.len() {
-        bytes(&image[6..10]);
+        bytes(rt, &image[6..10])?;
     }
-    end();
+    end(rt)
 }
 
 // A cut's number, with its kept count where it has one.
-pub fn cut_answer(answer: CutAnswer) {
+pub fn cut_answer(rt: &impl Print, answer: CutAnswer) -> io::Result<()> {
     match answer {
         CutAnswer::Kept(kept) => {
-            number(0);
-            number(kept as u64);
+            number(rt, 0)?;
+            number(rt, kept as u64)
         }
-        CutAnswer::Refused(why) => number(refusal_number(why)),
+        CutAnswer::Refused(why) => number(rt, refusal_number(why)),
     }
 }
 
 // A verdict's number, with n or m where it has one.
-pub fn verdict(answer: Verdict) {
+pub fn verdict(rt: &impl Print, answer: Verdict) -> io::Result<()> {
     match answer {
         Verdict::Admitted(n) => {
-            number(0);
-            number(n as u64);
+            number(rt, 0)?;
+            number(rt, n as u64)
         }
         Verdict::Denied(m) => {
-            number(8);
-            number(m as u64);
+            number(rt, 8)?;
+            number(rt, m as u64)
         }
-        Verdict::Refused(why) => number(refusal_number(why)),
+        Verdict::Refused(why) => number(rt, refusal_number(why)),
     }
 }

@@ -2,17 +2,18 @@
 use crate::print::{cut_answer, end, name, number, seen};
 use desk::state::{State, fresh};
 use region::numbers::answer_number;
+use std::io;
 use tape::tape_cut::tape_cut;
 use tape::tape_flush::tape_flush;
 use tape::tape_write::tape_write;
 
 // A write of A at 6 and of B at 7 by tape, then a flush, a cut and one write more, whatever the
 // tape foretells.
-fn epoch_trial(tape: &[u8]) {
+fn epoch_trial(rt: &impl Print, tape: &[u8]) -> io::Result<()> {
     let mut image = [0u8; 16];
     let mut log = [0u8; 1024];
     let mut predicted = [0xEEu8; 16];
-    name(b"tape write");
+    name(rt, "tape write")?;
     let first = tape_write(
         fresh(),
         &image,
@@ -24,9 +25,9 @@ fn epoch_trial(tape: &[u8]) {
         &[0x11, 0x22, 0x33, 0x44],
     );
     let answer = first.answer;
-    number(answer_number(answer));
-    seen(&predicted);
-    name(b"tape write");
+    number(rt, answer_number(answer))?;
+    seen(rt, &predicted)?;
+    name(rt, "tape write")?;
     let second = tape_write(
         first.state,
         &image,
@@ -38,16 +39,16 @@ fn epoch_trial(tape: &[u8]) {
         &[0xAA, 0xBB],
     );
     let answer = second.answer;
-    number(answer_number(answer));
-    seen(&predicted);
-    name(b"tape flush");
+    number(rt, answer_number(answer))?;
+    seen(rt, &predicted)?;
+    name(rt, "tape flush")?;
     let flushed = tape_flush(second.state, &mut image, &log, tape, 0, &mut predicted);
     let answer = flushed.answer;
-    number(answer_number(answer));
-    name(b" start");
-    number(flushed.start as u64);
-    seen(&image);
-    name(b"tape cut");
+    number(rt, answer_number(answer))?;
+    name(rt, " start")?;
+    number(rt, flushed.start as u64)?;
+    seen(rt, &image)?;
+    name(rt, "tape cut")?;
     let cut = tape_cut(
         flushed.state,
         &mut image,
@@ -57,19 +58,19 @@ fn epoch_trial(tape: &[u8]) {
         &mut predicted,
     );
     let answer = cut.answer;
-    cut_answer(answer);
-    name(b" start");
-    number(cut.start as u64);
-    seen(&image);
-    write_after(cut.state, tape, cut.start);
+    cut_answer(rt, answer)?;
+    name(rt, " start")?;
+    number(rt, cut.start as u64)?;
+    seen(rt, &image)?;
+    write_after(rt, cut.state, tape, cut.start)
 }
 
 // The tape has no epoch more.
-fn write_after(state: State, tape: &[u8], start: usize) {
+fn write_after(rt: &impl Print, state: State, tape: &[u8], start: usize) -> io::Result<()> {
     let image = [0u8; 16];
     let mut log = [0u8; 1024];
     let mut predicted = [0u8; 16];
-    name(b"tape write");
+    name(rt, "tape write")?;
     let last = tape_write(
         state,
         &image,
@@ -81,16 +82,16 @@ fn write_after(state: State, tape: &[u8], start: usize) {
         &[1],
     );
     let answer = last.answer;
-    number(answer_number(answer));
-    end();
+    number(rt, answer_number(answer))?;
+    end(rt)
 }
 
 // A tape cut under 80 is not what was foretold.
-fn cut_under_flush_trial() {
+fn cut_under_flush_trial(rt: &impl Print) -> io::Result<()> {
     let mut image = [0u8; 16];
     let log = [0u8; 1024];
     let mut predicted = [0xEEu8; 16];
-    name(b"cut under 80");
+    name(rt, "cut under 80")?;
     let cut = tape_cut(
         fresh(),
         &mut image,
@@ -100,27 +101,27 @@ fn cut_under_flush_trial() {
         &mut predicted,
     );
     let answer = cut.answer;
-    cut_answer(answer);
-    end();
+    cut_answer(rt, answer)?;
+    end(rt)
 }
 
 // A start at the tape's end, past it, and at the last number there is.
-fn start_trial(start: usize) {
+fn start_trial(rt: &impl Print, start: usize) -> io::Result<()> {
     let mut image = [0u8; 16];
     let log = [0u8; 1024];
     let mut predicted = [0u8; 16];
-    name(b"start");
+    name(rt, "start")?;
     let flushed = tape_flush(fresh(), &mut image, &log, &[0x80], start, &mut predicted);
     let answer = flushed.answer;
-    number(answer_number(answer));
-    end();
+    number(rt, answer_number(answer))?;
+    end(rt)
 }
 
-pub fn run() {
-    epoch_trial(&[0x00, 0x80, 0x40]);
-    epoch_trial(&[0x80, 0x80, 0x40]);
-    cut_under_flush_trial();
-    start_trial(0);
-    start_trial(1);
-    start_trial(0xffff_ffff_ffff_ffff);
+pub fn run(rt: &impl Print) -> io::Result<()> {
+    epoch_trial(rt, &[0x00, 0x80, 0x40])?;
+    epoch_trial(rt, &[0x80, 0x80, 0x40])?;
+    cut_under_flush_trial(rt)?;
+    start_trial(rt, 0)?;
+    start_trial(rt, 1)?;
+    start_trial(rt, 0xffff_ffff_ffff_ffff)
 }

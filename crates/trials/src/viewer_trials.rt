@@ -2,22 +2,33 @@
 use crate::print::{bytes, end, name, number};
 use region::numbers::answer_number;
 use region::viewer::{Which, viewer, viewer_number};
+use std::io;
 
-fn asked<'a>(first: &'a [u8], second: &'a [u8], which: Which, addr: usize, len: usize) {
-    number(answer_number(viewer_number(first, second, which, addr, len)));
+fn asked<'a>(
+    rt: &impl Print,
+    first: &'a [u8],
+    second: &'a [u8],
+    which: Which,
+    addr: usize,
+    len: usize,
+) -> io::Result<()> {
+    number(
+        rt,
+        answer_number(viewer_number(first, second, which, addr, len)),
+    )?;
     let part = viewer(first, second, which, addr, len);
-    bytes(part);
+    bytes(rt, part)
 }
 
-pub fn run() {
+pub fn run(rt: &impl Print) -> io::Result<()> {
     let short = [0x11, 0x22, 0x33];
     let long = [0xEEu8; 4097];
-    name(b"viewer");
-    asked(&short, &long, Which::First, 1, 2);
-    asked(&short, &long, Which::First, 3, 0);
-    asked(&short, &long, Which::First, 2, 2);
-    asked(&short, &long, Which::First, 0xffff_ffff_ffff_ffff, 2);
-    asked(&short, &long, Which::Second, 0, 1);
-    asked(&long, &short, Which::Second, 0, 1);
-    end();
+    name(rt, "viewer")?;
+    asked(rt, &short, &long, Which::First, 1, 2)?;
+    asked(rt, &short, &long, Which::First, 3, 0)?;
+    asked(rt, &short, &long, Which::First, 2, 2)?;
+    asked(rt, &short, &long, Which::First, 0xffff_ffff_ffff_ffff, 2)?;
+    asked(rt, &short, &long, Which::Second, 0, 1)?;
+    asked(rt, &long, &short, Which::Second, 0, 1)?;
+    end(rt)
 }
