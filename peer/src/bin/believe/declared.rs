@@ -51,12 +51,36 @@ pub fn read(tree: &mut Tree, file: usize) {
     }
 }
 
+/// The item without what stands in `#[..]` or `#![..]` before it.
+fn without_attributes(mut item: &[(usize, String)]) -> &[(usize, String)] {
+    while item.first().is_some_and(|(_, word)| word == "#") {
+        let mut depth = 0usize;
+        let ends = |(_, word): &(usize, String)| {
+            match word.as_str() {
+                "[" => depth += 1,
+                "]" => depth = depth.saturating_sub(1),
+                _ => {}
+            }
+            depth == 0 && word == "]"
+        };
+        let end = item.iter().position(ends).map_or(item.len(), |end| end + 1);
+        item = &item[end..];
+    }
+    item
+}
+
 fn read_item(tree: &mut Tree, file: usize, item: &[(usize, String)]) {
+    let item = without_attributes(item);
     let outer = ["pub", "(", "crate", ")"];
     let start = item.iter().take_while(|(_, word)| outer.contains(&word.as_str())).count();
     let bare: Vec<&str> = item[start..].iter().map(|(_, word)| word.as_str()).collect();
     match bare.as_slice() {
-        ["use", path @ ..] => read_use(tree, file, path),
+        ["use", path @ ..] => {
+            let signs = [":", ";"];
+            let words: Vec<&str> =
+                path.iter().copied().filter(|word| !signs.contains(word)).collect();
+            read_use(tree, file, &[], &words);
+        }
         ["struct" | "enum" | "const", name, ..] => {
             let constructors = if bare[0] == "enum" { variants(&bare) } else { Vec::new() };
             let tokens = item.iter().map(|(line, word)| Token::word(word, *line)).collect();
@@ -73,9 +97,25 @@ fn read_item(tree: &mut Tree, file: usize, item: &[(usize, String)]) {
     }
 }
 
-/// `use region::LOG_LIMIT;` is of the crate's lib, `use desk::state::State;` of its state.
-fn read_use(tree: &mut Tree, file: usize, path: &[&str]) {
-    let path: Vec<&str> = path.iter().copied().filter(|word| ![":", ";"].contains(word)).collect();
+/// `use region::LOG_LIMIT;` is of the crate's lib, `use desk::state::{State, fresh};` of its state.
+fn read_use(tree: &mut Tree, file: usize, before: &[&str], path: &[&str]) {
+    if let Some(brace) = path.iter().position(|word| *word == "{") {
+        let before = [before, &path[..brace]].concat();
+        let mut depth = 0usize;
+        let parts = path[brace + 1..].split(|word| {
+            match *word {
+                "{" => depth += 1,
+                "}" => depth = depth.saturating_sub(1),
+                _ => {}
+            }
+            depth == 0 && (*word == "," || *word == "}")
+        });
+        for part in parts {
+            read_use(tree, file, &before, part);
+        }
+        return;
+    }
+    let path = [before, path].concat();
     let [package, modules @ .., name] = path.as_slice() else { return };
     let own = tree.files[file].path.split('/').nth(1).unwrap_or_default();
     let package = if *package == "crate" { own } else { package };

@@ -2,7 +2,7 @@
 
 use crate::declared;
 use crate::tokens::{Shape, Token, items, outer_words, shape};
-use crate::tree::{Entry, Import, Kind, Tree};
+use crate::tree::{Entry, Import, Kind, Tree, operator_words};
 use std::collections::BTreeSet;
 
 /// The language's own words and signs.
@@ -29,15 +29,17 @@ pub struct Uses {
 }
 
 impl Tree {
-    /// `Rattle·CRATE.specs.FILE`, and from inside the crate `Rattle·CRATE·specs.specs.FILE`;
-    /// `Rattle·CRATE.specs.declared.FILE.TYPE` is a type of `src/`.
+    /// `Rattle.CRATE.specs.FILE`, where the crate is one of ours and none of the kit's;
+    /// `Rattle.CRATE.specs.declared.FILE.TYPE` is a type of `src/`.
     fn module(&self, module: &str) -> Option<Module> {
-        let Some(ours) = module.strip_prefix("Rattle·") else { return Some(Module::Kit) };
-        let (package, path) = ours.split_once('.')?;
-        let package = package.split('·').next()?;
+        let Some(path) = module.strip_prefix("Rattle.") else { return Some(Module::Kit) };
+        let (package, path) = path.split_once('.')?;
+        if !self.crates.contains(package) {
+            return Some(Module::Kit);
+        }
         if let Some(declared) = path.strip_prefix("specs.declared.") {
             let mut parts: Vec<&str> = declared.split('.').collect();
-            parts.pop_if(|last| *last == "the-variants");
+            parts.pop_if(|last| *last == "TheVariants");
             let name = parts.pop()?.to_string();
             let within = if parts.is_empty() { "lib".to_string() } else { parts.join("/") };
             let file = *self.at.get(&format!("crates/{package}/src/{within}.rt"))?;
@@ -45,8 +47,11 @@ impl Tree {
         }
         match self.at.get(&format!("crates/{package}/{}.antt", path.replace('.', "/"))) {
             Some(file) => Some(Module::File(*file)),
-            // no file of ours: the kit makes it of a declared type
-            None => path.starts_with("proofs.").then_some(Module::Kit),
+            // no file of ours: the kit makes it of a declared type or of a function
+            None => ["proofs.", "specs.contracts."]
+                .iter()
+                .any(|made| path.starts_with(made))
+                .then_some(Module::Kit),
         }
     }
 
@@ -54,7 +59,7 @@ impl Tree {
         let entries = self.files[file].names.get(name)?.clone();
         let is_one = |index: &usize| {
             self.entries[*index].constructors.iter().any(|constructor| {
-                constructor == name || constructor.split('_').any(|word| word == name)
+                constructor == name || operator_words(constructor).any(|word| word == name)
             })
         };
         let constructor = entries.iter().any(is_one);
@@ -90,6 +95,12 @@ impl Tree {
             let (first, rest) = module.split_at(module.find('.').unwrap_or(module.len()));
             let alias =
                 imports.iter().find(|import| import.name.is_none() && import.local == first);
+            // a field is written tight behind what has it
+            if alias.is_none()
+                && let Some(of) = self.meaning(file, first)
+            {
+                return Some(of);
+            }
             let first = alias.map_or(first, |alias| &alias.module);
             return self.exported(&format!("{first}{rest}"), last);
         }
@@ -283,7 +294,7 @@ impl Walk<'_> {
                     }
                 }
                 "λ" => at = self.lambda(tokens, at + 1)?,
-                "do" => self.name(&Token::word("_>>=_", tokens[at].line))?,
+                "do" => self.name(&Token::word("◌>>=◌", tokens[at].line))?,
                 "[" | "|" => {
                     let alternative = tokens[at + 1..].iter().position(|token| token.text == "↦");
                     let end = at + 1 + alternative.unwrap_or(0);
@@ -313,7 +324,9 @@ impl Walk<'_> {
 
     fn name(&mut self, token: &Token) -> Result<(), String> {
         let text = token.text.as_str();
-        let bound = self.frames.iter().any(|frame| frame.names.iter().any(|name| name == text));
+        // a field is written tight behind what has it: of `d.image` the name is d
+        let whole = text.split('.').next().unwrap_or(text);
+        let bound = self.frames.iter().any(|frame| frame.names.iter().any(|name| name == whole));
         let field = text.starts_with('.');
         if bound || field || is_literal(text) || LANGUAGE.split(' ').any(|word| word == text) {
             return Ok(());

@@ -13,11 +13,14 @@ fn real() -> Tree {
 }
 
 const DECLARED: &str = "\
+#![tactic(auto)]
+
 pub const MOST: usize = 8;
 
 pub const LEAST: usize = 0;
 
 // Which
+#[derive(Clone, Copy)]
 pub enum Say {
     // and why
     Yes,
@@ -30,7 +33,7 @@ pub struct Why {
 
 const SMALL: &str = "\
 -- The tail, and one behind it.
-use Prim.Nat.{ℕ, _+_}
+use Prim.Nat.{ℕ, ◌+◌}
 
 abbrev pub tail : ℕ
 tail = 0
@@ -41,20 +44,20 @@ one tail = lib.Sum.suc (tail + 1)
 pub data Log : Type 0 where
   empty : Log
   -- and more
-  _then_ : Log → ℕ → Log
+  ◌then◌ : Log → ℕ → Log
 
-infixl 10 _then_
+infixl 10 ◌then◌
 abbrev pub unused : Log
 unused = empty then tail";
 
-const PASSED: &str = "pub use Rattle·low·specs.specs.Small.{one, _then_, Log}";
+const PASSED: &str = "pub use Rattle.low.specs.Small.{one, ◌then◌, Log}";
 
 const BIG: &str = "\
 use Prim.Nat.{ℕ}
-use Rattle·low.specs.Passed.{one as uno, _then_, Log}
-use Rattle·low.specs.Small as small
-use Rattle·low.specs.declared.Say.{Say}
-use Rattle·low.specs.declared.Say.the-variants.{Yes}
+use Rattle.low.specs.Passed.{one as uno, ◌then◌, Log}
+use Rattle.low.specs.Small as small
+use Rattle.low.specs.declared.Say.{Say}
+use Rattle.low.specs.declared.Say.TheVariants.{Yes}
 
 module _ (log : Log) where
   -- longer than tail
@@ -82,12 +85,35 @@ waits = do
   n";
 
 const LAWS: &str = "\
-use Rattle·low.specs.Small.{Log, tail}
-use Rattle·high·specs.specs.Big.{Both, even, longer}
+use Rattle.low.specs.Small.{Log, tail}
+use Rattle.high.specs.Big.{Both, even, longer}
 
 holds : (log : Log) → Both log
 unfolding even
 holds log = longer even tail";
+
+const FIELDS: &str = "\
+use Rattle.low.specs.Small.{Log, empty}
+
+pub record Pair : Type 0 where
+  pub tail : Log
+
+abbrev pub made : Pair
+made = record { tail = empty }
+
+abbrev pub back : Pair → Log
+back pair = pair.tail
+
+abbrev pub front : Log
+front = made.tail";
+
+const GROUPED: &str = "\
+use low::{Why, MOST};
+
+#[derive(Clone)]
+pub struct Tall {
+    pub all: [Why; MOST],
+}";
 
 fn made_up() -> Tree {
     let mut tree = Tree::default();
@@ -95,7 +121,9 @@ fn made_up() -> Tree {
         ("crates/low/src/lib.rt", DECLARED),
         ("crates/low/specs/Small.antt", SMALL),
         ("crates/low/specs/Passed.antt", PASSED),
+        ("crates/high/src/lib.rt", GROUPED),
         ("crates/high/specs/Big.antt", BIG),
+        ("crates/high/specs/Fields.antt", FIELDS),
         ("crates/high/proofs/Laws.antt", LAWS),
     ] {
         tree.read_file(path.to_string(), text.lines().map(str::to_string).collect());
@@ -130,6 +158,18 @@ fn operators_variants_other_names_and_what_is_passed_on_are_followed() {
 }
 
 #[test]
+fn a_field_is_of_what_stands_before_it() {
+    assert_eq!(listed(&made_up(), "back"), pairs(&[("Log", 3), ("Pair", 2), ("back", 2)]));
+    let expected = [("Log", 3), ("Pair", 2), ("made", 2), ("front", 2)];
+    assert_eq!(listed(&made_up(), "front"), pairs(&expected));
+}
+
+#[test]
+fn a_use_of_several_names_is_followed_and_an_attribute_is_no_line() {
+    assert_eq!(listed(&made_up(), "Tall"), pairs(&[("MOST", 1), ("Why", 3), ("Tall", 3)]));
+}
+
+#[test]
 fn a_mutual_block_is_one_thing() {
     assert_eq!(listed(&made_up(), "odd"), pairs(&[("Log", 3), ("even", 5)]));
 }
@@ -145,7 +185,7 @@ fn of_a_law_the_statement_is_read() {
 fn what_stands_for_nothing_is_an_error() {
     let tree = made_up();
     let error = |name: &str| Closure::of(&tree, &[name.to_string()]).err();
-    let line = "crates/high/specs/Big.antt:28: what is _>>=_?";
+    let line = "crates/high/specs/Big.antt:28: what is ◌>>=◌?";
     assert_eq!(error("waits").as_deref(), Some(line));
     assert_eq!(error("missing").as_deref(), Some("nothing is called missing"));
 }
@@ -154,7 +194,7 @@ fn what_stands_for_nothing_is_an_error() {
 fn the_kit_is_told_by_module() {
     let tree = made_up();
     let list = Closure::of(&tree, &["one".to_string()]).expect("one").list();
-    assert!(list.contains("\n  Prim.Nat: _+_, ℕ\n  lib.Sum: suc\n"), "{list}");
+    assert!(list.contains("\n  Prim.Nat: ℕ, ◌+◌\n  lib.Sum: suc\n"), "{list}");
 }
 
 #[test]

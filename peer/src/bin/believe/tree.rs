@@ -2,7 +2,7 @@
 
 use crate::declared;
 use crate::tokens::{Shape, Token, bare, has_modifier, items, outer_words, shape, tokens};
-use std::collections::{BTreeSet, HashMap};
+use std::collections::{BTreeSet, HashMap, HashSet};
 use std::fs;
 use std::io;
 use std::path::Path;
@@ -64,11 +64,13 @@ pub struct Tree {
     pub files: Vec<File>,
     pub entries: Vec<Entry>,
     pub at: HashMap<String, usize>,
+    /// The crates that have a file here; of every other the kit has the text.
+    pub crates: HashSet<String>,
 }
 
-/// The words of an operator, which stand in the text one by one: `then` of `_then_`.
-fn operator_words(name: &str) -> impl Iterator<Item = &str> {
-    name.split('_').filter(move |word| name.contains('_') && !word.is_empty())
+/// The words of an operator, which stand in the text one by one: `then` of `◌then◌`.
+pub fn operator_words(name: &str) -> impl Iterator<Item = &str> {
+    name.split('◌').filter(move |word| name.contains('◌') && !word.is_empty())
 }
 
 impl Tree {
@@ -105,6 +107,7 @@ impl Tree {
     pub fn read_file(&mut self, path: String, text: Vec<String>) {
         let file = self.files.len();
         self.at.insert(path.clone(), file);
+        self.crates.extend(path.split('/').nth(1).map(str::to_string));
         let declared = path.ends_with(".rt");
         self.files.push(File { path, text, imports: Vec::new(), names: HashMap::new() });
         if declared {
