@@ -27,18 +27,22 @@ const STATE_WORDS: usize = 65;
 const LOG_BYTES: usize = 1024;
 
 /// What the program's own functions give.
-const PARTS: [(&str, &str); 11] = [
-    ("fill", "log"),
-    ("fill", "state"),
-    ("print", "end"),
-    ("print", "image_bytes"),
-    ("print", "log_bytes"),
-    ("print", "number"),
-    ("print", "predicted_bytes"),
-    ("print", "report_number"),
-    ("print", "start_number"),
-    ("print", "state_words"),
-    ("print", "work_bytes"),
+const PARTS: [(&str, &[&str]); 2] = [
+    ("fill", &["log", "state"]),
+    (
+        "print",
+        &[
+            "end",
+            "image_bytes",
+            "log_bytes",
+            "number",
+            "predicted_bytes",
+            "report_number",
+            "start_number",
+            "state_words",
+            "work_bytes",
+        ],
+    ),
 ];
 
 struct File {
@@ -97,7 +101,7 @@ fn put(path: &str, text: &str) {
 }
 
 fn program(rng: &mut Rng, file: &File, answers: &mut String) -> String {
-    let (mut functions, mut replay) = (String::new(), String::new());
+    let (mut functions, mut replay) = (String::new(), Vec::new());
     for call in file.calls {
         let numbers = call.numbers();
         let ends = [numbers.first(), numbers.last()].into_iter().flatten().copied();
@@ -106,12 +110,16 @@ fn program(rng: &mut Rng, file: &File, answers: &mut String) -> String {
         let whole = whole(&cases);
         functions.push_str(&calling(*call, &whole));
         for (number, case) in &cases {
-            let _ = writeln!(replay, "    {}_{number}();", call.name());
+            replay.push(format!("{}_{number}(rt)", call.name()));
             functions.push_str(&function(case, *number, &whole));
             answers.push_str(&answer(case));
         }
     }
-    format!("{}{functions}pub fn replay() {{\n{replay}}}\n", heading(file, &functions))
+    let replay = replay.join("?;\n    ");
+    let head = heading(file, &functions);
+    format!(
+        "{head}{functions}pub fn replay(rt: &impl Print) -> io::Result<()> {{\n    {replay}\n}}\n"
+    )
 }
 
 /// The buffers that have in every case the length that a desk gives them.
@@ -128,16 +136,26 @@ fn whole(cases: &[(u64, Case)]) -> Vec<Field> {
 
 fn heading(file: &File, functions: &str) -> String {
     let mut text = format!("// {} Made by peer/src/bin/sample.rs.\n", file.head);
-    for (module, name) in PARTS {
-        if [' ', '('].iter().any(|before| functions.contains(&format!("{before}{name}("))) {
-            let _ = writeln!(text, "use crate::{module}::{name};");
-        }
+    for (module, parts) in PARTS {
+        let named = |name: &&str| {
+            [' ', '('].iter().any(|before| functions.contains(&format!("{before}{name}(")))
+        };
+        let names = parts.iter().copied().filter(named).map(str::to_string).collect();
+        text.push_str(&import(&format!("crate::{module}"), names));
     }
-    for call in file.calls {
-        let _ = writeln!(text, "use skaldrift::{}::skaldrift_{};", file.module, call.name());
-    }
-    text.push('\n');
+    let calls = file.calls.iter().map(|call| format!("skaldrift_{}", call.name())).collect();
+    text.push_str(&import(&format!("skaldrift::{}", file.module), calls));
+    text.push_str("use std::io;\n\n");
     text
+}
+
+fn import(module: &str, mut names: Vec<String>) -> String {
+    names.sort();
+    match names.as_slice() {
+        [] => String::new(),
+        [name] => format!("use {module}::{name};\n"),
+        _ => format!("use {module}::{{{}}};\n", names.join(", ")),
+    }
 }
 
 /// The arguments that the C function lends to be changed.
@@ -203,7 +221,8 @@ fn used<T: Default + PartialEq>(values: &[T]) -> usize {
 
 /// The function that makes the call, and prints what it answers and leaves behind.
 fn calling(call: Call, whole: &[Field]) -> String {
-    let (mut parameters, mut passed, mut shown) = (Vec::new(), Vec::new(), String::new());
+    let (mut parameters, mut passed, mut shown) =
+        (vec!["rt: &impl Print".to_string()], Vec::new(), String::new());
     for field in call.fields() {
         let (name, lent) = (field.name(), starred(call).contains(field));
         let changed = if lent { "mut " } else { "" };
@@ -221,15 +240,16 @@ fn calling(call: Call, whole: &[Field]) -> String {
     for field in starred(call) {
         let (name, lent) = (field.name(), if whole.contains(field) { "&" } else { "" });
         let _ = match field {
-            Field::State => writeln!(shown, "    state_words({lent}state);"),
-            Field::Start | Field::Report => writeln!(shown, "    {name}_number({name});"),
-            _ => writeln!(shown, "    {name}_bytes({lent}{name});"),
+            Field::State => writeln!(shown, "    state_words(rt, {lent}state)?;"),
+            Field::Start | Field::Report => writeln!(shown, "    {name}_number(rt, {name})?;"),
+            _ => writeln!(shown, "    {name}_bytes(rt, {lent}{name})?;"),
         };
     }
     let (name, parameters, passed) = (call.name(), parameters.join(", "), passed.join(", "));
     format!(
-        "fn {name}({parameters}) {{\n    let answer = skaldrift_{name}({passed});\n    \
-         number(b\"{name}\", answer);\n{shown}    end();\n}}\n\n"
+        "fn {name}({parameters}) -> io::Result<()> {{\n    \
+         let answer = skaldrift_{name}({passed});\n    \
+         number(rt, \"{name}\", answer)?;\n{shown}    end(rt)\n}}\n\n"
     )
 }
 
@@ -244,7 +264,10 @@ fn function(case: &Case, wanted: u64, whole: &[Field]) -> String {
     let fields = case.call.fields().iter();
     let passed: Vec<String> = fields.map(|field| passed(case, *field, whole)).collect();
     let (name, passed) = (case.call.name(), passed.join(", "));
-    format!("fn {name}_{wanted}() {{\n    {name}({passed});\n}}\n\n")
+    format!(
+        "fn {name}_{wanted}(rt: &impl Print) -> io::Result<()> {{\n    \
+         {name}(rt, {passed})\n}}\n\n"
+    )
 }
 
 fn passed(case: &Case, field: Field, whole: &[Field]) -> String {
