@@ -1,7 +1,7 @@
 /*
  * Skaldrift: a formula table in persistent memory that a power cut cannot leave half patched.
  *
- * Link with libskaldrift.a, for x86-64 Linux (`rt staticlib skaldrift` writes target/staticlib/libskaldrift.a):
+ * Link with libskaldrift.a, for x86-64 Linux (`./archive` writes target/staticlib/libskaldrift.a):
  *
  *     cc -I include main.c target/staticlib/libskaldrift.a
  *

@@ -28,7 +28,7 @@ fn main() {
     println!("cargo::rerun-if-changed={}", library.display());
     if !library.is_file() {
         println!(
-            "cargo::error={} is missing: make it with `rt staticlib skaldrift`, or set SKALDRIFT_LIB to its folder",
+            "cargo::error={} is missing: make it with `./archive`, or set SKALDRIFT_LIB to its folder",
             library.display()
         );
         return;

@@ -1,5 +1,5 @@
 //! Links the proved archive: libskaldrift.a in target/staticlib of the repository, which
-//! `rt staticlib skaldrift` writes, or in the folder that SKALDRIFT_LIB names.
+//! `./archive` writes, or in the folder that SKALDRIFT_LIB names.
 use std::env;
 use std::path::PathBuf;
 
@@ -25,7 +25,7 @@ fn main() {
     println!("cargo::rerun-if-changed={}", archive.display());
     if !archive.is_file() {
         println!(
-            "cargo::error={} is missing: make it with `rt staticlib skaldrift`, or set SKALDRIFT_LIB to its folder",
+            "cargo::error={} is missing: make it with `./archive`, or set SKALDRIFT_LIB to its folder",
             archive.display()
         );
         return;
