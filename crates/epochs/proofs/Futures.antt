@@ -89,11 +89,6 @@ module _ (K : ℕ) (e : Foreseen) (shaped : RowsOfWidth K e) where
         }
 
 module _ (K : ℕ) where
-  bytes_of_tape : (es : List Foreseen) → AllOfWidth K es → AreBytes (tape_of K es)
-  unfolding tape_of
-  bytes_of_tape [] none = λ i. lit< tt
-  bytes_of_tape (e ∷ es) (more w ws) = bytes_of_append (epoch_bytes K e) (tape_of K es) (bytes_of_epoch K e w) (bytes_of_tape es ws)
-
   tells_behind : (before : List ℕ) (es : List Foreseen) → AllOfWidth K es → Tells K (before ++ tape_of K es) (length before) es
   unfolding tape_of
   tells_behind before [] none = nothing
@@ -104,6 +99,11 @@ module _ (K : ℕ) where
       next (epoch_tells K e w before (tape_of K es))
       (subst (λ (t : List ℕ). Tells K t (row_place K (length before) (length e.rows)) es) (append_assoc before (epoch_bytes K e) (tape_of K es))
       (subst (λ (i : ℕ). Tells K ((before ++ epoch_bytes K e) ++ tape_of K es) i es) place rest))
+
+  bytes_of_tape : (es : List Foreseen) → AllOfWidth K es → AreBytes (tape_of K es)
+  unfolding tape_of
+  bytes_of_tape [] none = λ i. lit< tt
+  bytes_of_tape (e ∷ es) (more w ws) = bytes_of_append (epoch_bytes K e) (tape_of K es) (bytes_of_epoch K e w) (bytes_of_tape es ws)
 
   -- the tape is fixed before the run, and its start is 0
   pub every_future_has_a_tape : (es : List Foreseen) → AllOfWidth K es → AreBytes (tape_of K es) × Tells K (tape_of K es) 0 es

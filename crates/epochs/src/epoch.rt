@@ -43,6 +43,7 @@ fn epoch_there(tape: &[u8], start: usize, n: usize, chunks: usize) -> bool
 
 // Are the first n rows of the epoch at `start` there, and filled? Document 01's 10 and 9: every row
 // is there before any filling is looked at.
+#[tactic(auto, using(crate::proofs::EpochLaws::no_epoch, crate::proofs::EpochLaws::badly_filled, crate::proofs::EpochLaws::epoch_good))]
 pub fn epoch(tape: &[u8], start: usize, n: usize, size: usize) -> Answer
     requires { (n ≤ writes_limit) × (size ≤ image_limit) }
     ensures { answer_number result ≡ epoch_number (size_to_chunks const_persistence_chunk_size size) n tape.now start }
