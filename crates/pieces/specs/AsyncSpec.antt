@@ -1,4 +1,4 @@
--- Renders pmem_async_spec_t.rs, under the same names with hyphens but for `valid`: the image at the last flush with the outstanding writes over it. The
+-- Renders pmem_async_spec_t.rs, under the same names, facts in camel case, but for `valid`: the image at the last flush with the outstanding writes over it. The
 -- chunk size is the argument C. `data` is a word of antt, so a write's bytes are its field `bytes`. `size_to_chunks` stands in `region`, where code
 -- needs it first, and is passed on from here.
 use Rattle.std.specs.Prelude.{ℕ, ◌+◌, ◌-◌, ◌/◌, ◌≤◌, ◌<◌, ◌≡◌, Bool, false, cond, ◌&&◌, List, [], ◌∷◌, ◌++◌, length, get_or, drop}

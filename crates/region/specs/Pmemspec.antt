@@ -1,4 +1,4 @@
--- Renders the definitions of pmemspec_t.rs, under the same names with hyphens. An image is the list of its bytes, an address a natural number, and
+-- Renders the definitions of pmemspec_t.rs, under the same names, facts in camel case. An image is the list of its bytes, an address a natural number, and
 -- the chunk size, `const_persistence_chunk_size()` there, is the argument C.
 use Rattle.std.specs.Prelude.{ℕ, ◌-◌, ◌+◌, ◌/◌, ◌<◌, ◌≡◌, ◌⊎◌, cond, List}
 use lib.ListN.{length, get_or}
