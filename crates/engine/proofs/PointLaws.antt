@@ -5,6 +5,7 @@ use native.Mathlib.Omega.{arith}
 use mathlib.Core.Path.{◌≡◌, refl, ap, ap₂}
 use mathlib.Core.Bool.{true}
 use mathlib.Core.List.{List, [], ◌∷◌}
+use lib.Dec.{leb}
 use lib.ListN.{length, take, drop, length-drop}
 use lib.Seq.{length-take-le}
 use borrow.Author.Tests.{le-leb, leb-true}
@@ -35,7 +36,7 @@ pub inside_longer : (L M : ℕ) (rs : List Record) → L ≤ M → records_insid
 unfolding records_inside
 inside_longer L M [] h e = refl
 inside_longer L M (r ∷ rs) h e =
-    let parts = both _ _ e in
+    let parts = both (leb (r.addr + r.len) L) (records_inside L rs) e in
     both_true (le-leb (r.addr + r.len) M (omega (arith, leb-true (r.addr + r.len) L parts.0))) (inside_longer L M rs h parts.1)
 
 -- a write's bytes in the log buffer are as many as its record says
