@@ -1,0 +1,67 @@
+-- The points are counted by records, and the engine's promise is the judgement's. Assumes nothing.
+use Rattle.std.proofs.Common.{◌+◌, ◌≡◌, length, sym, ◌∙◌, arith}
+use mathlib.Core.Path.{ap₂}
+use Rattle.region.specs.Limits.{image_limit}
+use Rattle.pieces.specs.AsyncSpec.{write_of}
+use Rattle.desk.specs.State.{log_records}
+use Rattle.desk.specs.Desk.{desk}
+use Rattle.desk.proofs.Soundness.{sound_facts}
+use Rattle.walks.proofs.KeptLaws.{touched_le}
+use Rattle.engine.proofs.PointLaws.{inside_longer, record_points_le, points_with_a_write}
+use Rattle.gate.specs.Judgement.{gate_points}
+use Rattle.gate.proofs.JudgementLaws.{weighs_many, weighs_admitted, weighs_denied}
+use Rattle.gate.proofs.judge.weigh.Goals as goal
+
+pub log_points-requires : goal.log_points-requires
+log_points-requires c =
+    let st = c.args.state in
+    let facts = sound_facts _ st _ c.requires.good in
+    record {
+      sized = c.requires.sized;
+      few = facts.few;
+      inside = inside_longer _ image_limit (log_records st) facts.short facts.inside;
+      room = facts.room;
+    }
+
+-- no sum wraps: a log has no more points than bytes, and a write no more than the image
+pub overflow_add-n : goal.overflow_add-n
+overflow_add-n c =
+    let a = c.args in
+    let facts = sound_facts _ a.state _ c.requires.good in
+    omega (
+      arith,
+      c.touched.ensures,
+      c.log_points.ensures,
+      record_points_le (log_records a.state),
+      facts.room,
+      facts.short,
+      touched_le a.addr (length a.bytes.now),
+      c.requires.lies,
+    )
+
+pub returns-then-n-gt-POINTS_LIMIT : goal.returns-then-n-gt-POINTS_LIMIT
+returns-then-n-gt-POINTS_LIMIT c =
+    let a = c.args in
+    let d = desk a.image.now a.state a.log.now in
+    let w = write_of a.addr a.bytes.now in
+    let points : c.log_points.result + c.touched.result ≡ gate_points d w =
+    ap₂ (◌+◌) c.log_points.ensures c.touched.ensures ∙ sym (points_with_a_write d w c.requires.good) in
+    weighs_many c.requires (omega (arith, points))
+
+pub returns-in-AllGood : goal.returns-in-AllGood
+returns-in-AllGood c =
+    let a = c.args in
+    let d = desk a.image.now a.state a.log.now in
+    let w = write_of a.addr a.bytes.now in
+    let points : c.log_points.result + c.touched.result ≡ gate_points d w =
+    ap₂ (◌+◌) c.log_points.ensures c.touched.ensures ∙ sym (points_with_a_write d w c.requires.good) in
+    weighs_admitted c.requires (omega (arith, points, c.if-n-gt-POINTS_LIMIT.false)) c.search.ensures c.in-AllGood.is points
+
+pub returns-in-FirstBad : goal.returns-in-FirstBad
+returns-in-FirstBad c =
+    let a = c.args in
+    let d = desk a.image.now a.state a.log.now in
+    let w = write_of a.addr a.bytes.now in
+    let points : c.log_points.result + c.touched.result ≡ gate_points d w =
+    ap₂ (◌+◌) c.log_points.ensures c.touched.ensures ∙ sym (points_with_a_write d w c.requires.good) in
+    weighs_denied c.requires (omega (arith, points, c.if-n-gt-POINTS_LIMIT.false)) c.search.ensures c.in-FirstBad.is
