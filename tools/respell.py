@@ -24,7 +24,8 @@ def camel(n):
 
 
 def snake(n):
-    return n.replace("-", "_")
+    # The toolchain's script made `get_or` of `getD`, but not in names of ours, and gave one of ours an ending.
+    return n.replace("-", "_").replace("getD", "get_or").replace("number_of_lem", "number_of")
 
 
 def own_files():

@@ -56,23 +56,23 @@ module _ {M D : Type 0} (X : Crossing M D) (m : M) where
     pub refused_at {ℓ} : {A : Type ℓ} (refused : A) (call : D → A) → refused ≡ at_desk X m refused call
     refused_at refused call = sym (cond_unless (eqb (length (X.words m)) state_words) (call (X.inward m)) refused (ne_eqb _ _ other))
 
-    pub refused_by {ℓ} : {A : Type ℓ} (number_of_lem : D → ℕ) (after before : A) → before ≡ if_done (at_desk X m 1 number_of_lem) after before
-    refused_by number_of_lem after before = ap (λ (n : ℕ). if_done n after before) (refused_at 1 number_of_lem)
+    pub refused_by {ℓ} : {A : Type ℓ} (number_of : D → ℕ) (after before : A) → before ≡ if_done (at_desk X m 1 number_of) after before
+    refused_by number_of after before = ap (λ (n : ℕ). if_done n after before) (refused_at 1 number_of)
 
   module _ (sized : StateSized X m) where
     pub called_at {ℓ} : {A : Type ℓ} (refused : A) (call : D → A) → call (X.inward m) ≡ at_desk X m refused call
     called_at refused call = sym (cond_when (eqb (length (X.words m)) state_words) (call (X.inward m)) refused (eq-eqb _ _ sized))
 
     -- what goes by the call's number goes by the function's
-    pub called_by {ℓ} : {A : Type ℓ} (number_of_lem : D → ℕ) (after before : A)
-        → if_done (number_of_lem (X.inward m)) after before ≡ if_done (at_desk X m 1 number_of_lem) after before
-    called_by number_of_lem after before = ap (λ (n : ℕ). if_done n after before) (called_at 1 number_of_lem)
+    pub called_by {ℓ} : {A : Type ℓ} (number_of : D → ℕ) (after before : A)
+        → if_done (number_of (X.inward m)) after before ≡ if_done (at_desk X m 1 number_of) after before
+    called_by number_of after before = ap (λ (n : ℕ). if_done n after before) (called_at 1 number_of)
 
   -- a function that is done was handed as many words as a state has
-  pub sized_if_done : (number_of_lem : D → ℕ) → at_desk X m 1 number_of_lem ≡ 0 → StateSized X m
-  sized_if_done number_of_lem = go (eqb (length (X.words m)) state_words) refl
+  pub sized_if_done : (number_of : D → ℕ) → at_desk X m 1 number_of ≡ 0 → StateSized X m
+  sized_if_done number_of = go (eqb (length (X.words m)) state_words) refl
     where
-      go : (t : Bool) → eqb (length (X.words m)) state_words ≡ t → cond t (number_of_lem (X.inward m)) 1 ≡ 0 → StateSized X m
+      go : (t : Bool) → eqb (length (X.words m)) state_words ≡ t → cond t (number_of (X.inward m)) 1 ≡ 0 → StateSized X m
       go true e none = eqb-true (length (X.words m)) state_words e
       go false e none = absurd (suc-ne-zero 0 none)
 
@@ -92,36 +92,36 @@ module _ {M D : Type 0} {X : Crossing M D} (laws : CrossingLaws X) (m : M) (size
   sized_by (suc why) after full e = ap (λ (l : M). length (X.words l)) e ∙ sized
 
 -- words of another number
-pub wrong : {M D : Type 0} {X : Crossing M D} {number_of_lem : D → ℕ} {done : D → D} {m : M} {number : ℕ} → (StateSized X m → ⊥) → number ≡ 1
-    → Does X number_of_lem done m number m
-wrong {X = X} {number_of_lem} {done} {m} other told =
-    record { answers = told ∙ refused_at X m other 1 number_of_lem; leaves = refused_by X m other number_of_lem (X.outward (done (X.inward m))) m }
+pub wrong : {M D : Type 0} {X : Crossing M D} {number_of : D → ℕ} {done : D → D} {m : M} {number : ℕ} → (StateSized X m → ⊥) → number ≡ 1
+    → Does X number_of done m number m
+wrong {X = X} {number_of} {done} {m} other told =
+    record { answers = told ∙ refused_at X m other 1 number_of; leaves = refused_by X m other number_of (X.outward (done (X.inward m))) m }
 
-module _ {M D : Type 0} {X : Crossing M D} (laws : CrossingLaws X) {number_of_lem : D → ℕ} {done : D → D} {m m' : M} {number : ℕ}
+module _ {M D : Type 0} {X : Crossing M D} (laws : CrossingLaws X) {number_of : D → ℕ} {done : D → D} {m m' : M} {number : ℕ}
     (sized : StateSized X m) where
   -- A call at the desk that the words say, whose answer has this number and whose desk afterwards was stored.
-  pub right : {d d' : D} → d ≡ X.inward m → number ≡ number_of_lem d → d' ≡ if_done (number_of_lem d) (done d) d → m' ≡ X.outward d'
-      → Does X number_of_lem done m number m'
+  pub right : {d d' : D} → d ≡ X.inward m → number ≡ number_of d → d' ≡ if_done (number_of d) (done d) d → m' ≡ X.outward d'
+      → Does X number_of done m number m'
   right {d} {d'} loaded told left stored =
       let here = X.inward m in
-      let left_here : d' ≡ if_done (number_of_lem here) (done here) here = subst (λ (e : D). d' ≡ if_done (number_of_lem e) (done e) e) loaded left in
+      let left_here : d' ≡ if_done (number_of here) (done here) here = subst (λ (e : D). d' ≡ if_done (number_of e) (done e) e) loaded left in
       record {
-        answers = told ∙ ap number_of_lem loaded ∙ called_at X m sized 1 number_of_lem;
-        leaves = stored ∙ lent_by laws m sized (number_of_lem here) (done here) left_here ∙ called_by X m sized number_of_lem (X.outward (done here)) m;
+        answers = told ∙ ap number_of loaded ∙ called_at X m sized 1 number_of;
+        leaves = stored ∙ lent_by laws m sized (number_of here) (done here) left_here ∙ called_by X m sized number_of (X.outward (done here)) m;
       }
 
   -- And what a function promises, said of the call: its number, the desk afterwards, and that the words say a state again.
-  module _ (does : Does X number_of_lem done m number m') where
-    pub number_there : number ≡ number_of_lem (X.inward m)
-    number_there = does.answers ∙ sym (called_at X m sized 1 number_of_lem)
+  module _ (does : Does X number_of done m number m') where
+    pub number_there : number ≡ number_of (X.inward m)
+    number_there = does.answers ∙ sym (called_at X m sized 1 number_of)
 
-    pub leaves_there : X.inward m' ≡ if_done (number_of_lem (X.inward m)) (done (X.inward m)) (X.inward m)
+    pub leaves_there : X.inward m' ≡ if_done (number_of (X.inward m)) (done (X.inward m)) (X.inward m)
     leaves_there =
         let here = X.inward m in
-        desk_by laws m sized (number_of_lem here) (done here) (does.leaves ∙ sym (called_by X m sized number_of_lem (X.outward (done here)) m))
+        desk_by laws m sized (number_of here) (done here) (does.leaves ∙ sym (called_by X m sized number_of (X.outward (done here)) m))
 
     pub sized_after : (length (laws.state (X.inward m)).records ≡ writes_limit → length (laws.state (done (X.inward m))).records ≡ writes_limit)
         → StateSized X m'
     sized_after keeps =
         let full = ap (λ (st : State). length st.records) (laws.words_say m) ∙ said_length (X.words m) sized in
-        sized_by laws m sized (at_desk X m 1 number_of_lem) (done (X.inward m)) (keeps full) does.leaves
+        sized_by laws m sized (at_desk X m 1 number_of) (done (X.inward m)) (keeps full) does.leaves

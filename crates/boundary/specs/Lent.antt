@@ -54,6 +54,6 @@ module _ {M D : Type 0} (X : Crossing M D) where
   at_desk m refused call = unless (eqb (length (X.words m)) state_words) refused (call (X.inward m))
 
   -- What a function promises that is a call with this number, which leaves the desk so where it is done. Words of another number are refusal 1.
-  pub record Does (number_of_lem : D → ℕ) (done : D → D) (m : M) (number : ℕ) (m' : M) : Type 0 where
-    pub answers : number ≡ at_desk m 1 number_of_lem
-    pub leaves : m' ≡ if_done (at_desk m 1 number_of_lem) (X.outward (done (X.inward m))) m
+  pub record Does (number_of : D → ℕ) (done : D → D) (m : M) (number : ℕ) (m' : M) : Type 0 where
+    pub answers : number ≡ at_desk m 1 number_of
+    pub leaves : m' ≡ if_done (at_desk m 1 number_of) (X.outward (done (X.inward m))) m

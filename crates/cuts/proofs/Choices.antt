@@ -8,7 +8,7 @@ use mathlib.Core.Bool.{true, false, ◌&&◌, false≢true}
 use mathlib.Core.List.{List, [], ◌∷◌, ◌++◌}
 use lib.ListN.{length, get_or, take}
 use lib.Pow.{shr-shr}
-use Rattle.region.proofs.Tab.{length_tab, getD_tab, inside_below, inside_above}
+use Rattle.region.proofs.Tab.{length_tab, get_or_tab, inside_below, inside_above}
 use Rattle.pieces.specs.AsyncSpec.{Write, no_write, addr_to_chunk}
 use Rattle.pieces.specs.Choice.{touched, points, keeps_point, row_of, rows_of}
 use Rattle.cuts.specs.Bits.{write_at, row_bit_at, touches_chunk}
@@ -43,7 +43,7 @@ module _ (C K : ℕ) where
       ≡ (touches_chunk C (write_at ws j) c && keeps_point m (points C (take j ws) + (c - addr_to_chunk C (write_at ws j).addr)))
   unfolding rows_of row_of points
   bit_of_choice [] m j c h = rw (nothing_touched C c)
-  bit_of_choice (w ∷ ws) m zero c h = getD_tab _ K c false h ∙ rw zero-add
+  bit_of_choice (w ∷ ws) m zero c h = get_or_tab _ K c false h ∙ rw zero-add
   bit_of_choice (w ∷ ws) m (suc j) c h =
       let t = touched C w.addr (length w.bytes) in
       let at = points C (take j ws) in

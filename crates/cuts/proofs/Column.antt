@@ -7,7 +7,7 @@ use mathlib.Core.Bool.{Bool, true, false, cond, ◌&&◌}
 use mathlib.Core.List.{List, [], ◌∷◌}
 use lib.ListN.{length, get_or, drop, get_or-eq_default}
 use Rattle.region.specs.Pmemspec.{update_bytes}
-use Rattle.region.proofs.Tab.{getD_tab}
+use Rattle.region.proofs.Tab.{get_or_tab}
 use Rattle.pieces.specs.AsyncSpec.{Write, apply_write, apply_write_selective, flush_writes_selective}
 use Rattle.cuts.specs.Bits.{write_at, row_bit_at, covers}
 use Rattle.cuts.proofs.Lengths.{length_apply_write_selective, length_flush_writes_selective}
@@ -17,13 +17,13 @@ use Rattle.cuts.proofs.Basics.{get_d_tail}
 pub byte_of_write : (s : List ℕ) (w : Write) (i : ℕ) → i < length s
     → get_or (apply_write s w) i 0 ≡ cond (covers w i) (get_or w.bytes (i - w.addr) 0) (get_or s i 0)
 unfolding update_bytes
-byte_of_write s w i h = getD_tab _ (length s) i 0 h
+byte_of_write s w i h = get_or_tab _ (length s) i 0 h
 
 pub byte_of_selective : (C : ℕ) (s : List ℕ) (w : Write) (row : List Bool) (i : ℕ) → i < length s
     → get_or (apply_write_selective C s w row) i 0
     ≡ cond (covers w i && get_or row (i / C) false) (get_or w.bytes (i - w.addr) 0) (get_or s i 0)
 unfolding apply_write_selective
-byte_of_selective C s w row i h = getD_tab _ (length s) i 0 h
+byte_of_selective C s w row i h = get_or_tab _ (length s) i 0 h
 
 same_choice : (t a b : Bool) (x y z : ℕ) → (t ≡ true → a ≡ b) → y ≡ z → cond (t && a) x y ≡ cond (t && b) x z
 same_choice false a b x y z h e = e

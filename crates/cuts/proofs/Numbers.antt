@@ -9,7 +9,7 @@ use mathlib.Core.Bool.{Bool, true, false, false≢true}
 use mathlib.Core.List.{List, [], ◌∷◌}
 use lib.Dec.{lit<}
 use lib.ListN.{length, get_or, drop, take}
-use Rattle.region.proofs.Tab.{getD_tab}
+use Rattle.region.proofs.Tab.{get_or_tab}
 use Rattle.pieces.specs.AsyncSpec.{Write, AsyncView, addr_to_chunk, flush_selective, committed, readable, CanCrash}
 use Rattle.pieces.specs.Choice.{touched, points, row_of, rows_of}
 use Rattle.pieces.proofs.Touched.{inside_bounds}
@@ -53,7 +53,7 @@ module _ (C : ℕ) where
       let t = touched C w.addr (length w.bytes) in
       let at = inside_bounds first t c k in
       let e : first + (c - first) ≡ c = omega arith in
-      getD_tab _ K c false h
+      get_or_tab _ K c false h
       ∙ rw k (bit_of_bits_below (number_of C ws (drop 1 rows)) (λ c. get_or (get_or rows 0 []) c false) first t (c - first) (omega arith) ∙ rw e)
   number_of_agrees K (w ∷ ws) rows (suc j) c h k =
       let first = addr_to_chunk C w.addr in

@@ -10,7 +10,7 @@ use lib.ListN.{length, get_or, drop}
 use lib.Arith.{lt-one}
 use lib.Pow.{shr_lt}
 use lib.Count.{ones, ones_cat}
-use Rattle.region.proofs.Tab.{getD_tab, inside_in}
+use Rattle.region.proofs.Tab.{get_or_tab, inside_in}
 use Rattle.pieces.specs.AsyncSpec.{Write, AsyncView, WritesValid, addr_to_chunk}
 use Rattle.pieces.specs.Choice.{touched, points, keeps_point, row_of, rows_of}
 use Rattle.pieces.specs.Rows.{set_bits}
@@ -67,7 +67,7 @@ module _ (C K : ℕ) where
       m
       (λ k b. let hit : touches_chunk C w (first + k) ≡ true = inside_in first t (first + k) (omega arith) (omega arith) in
       let e : first + k - first ≡ k = omega arith in
-      getD_tab _ K (first + k) false (p 0 (first + k) hit) ∙ rw (hit, e)))
+      get_or_tab _ K (first + k) false (p 0 (first + k) hit) ∙ rw (hit, e)))
 
 module _ (C : ℕ) (C⁺ : 0 < C) (v : AsyncView) (inside : WritesValid v) (m : ℕ) (h : m < 2 ^ choice_points C v) where
   pub number_of_choice : number_of C v.outstanding_writes (rows_of C (view_chunks C v) v.outstanding_writes m) ≡ m

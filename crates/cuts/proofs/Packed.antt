@@ -9,7 +9,7 @@ use lib.Dec.{lit<}
 use lib.ListN.{length, get_or, get_or-append, get_or-eq_default}
 use lib.Seq.{ext_get_or, get_or-append-add}
 use Rattle.region.specs.Tab.{tab}
-use Rattle.region.proofs.Tab.{length_tab, getD_tab}
+use Rattle.region.proofs.Tab.{length_tab, get_or_tab}
 use Rattle.pieces.specs.Choice.{keeps_point}
 use Rattle.pieces.specs.Rows.{byte_bits, row_bytes, row_bit, row_at, row_filled}
 use Rattle.pieces.proofs.Filling.{filled_exactly}
@@ -37,7 +37,7 @@ module _ (K : ℕ) (before : List ℕ) (row : List Bool) (after : List ℕ) wher
       let k : c / 8 < row_bytes K = omega arith in
       ap (λ x. keeps_point x (byte_bits - 1 - c % byte_bits))
       (get_or-append-add before (packed_row K row ++ after) (c / byte_bits) 0
-      ∙ get_or-append (packed_row K row) after 0 (c / byte_bits) (rw length_packed_row k) ∙ getD_tab (packed_byte row) (row_bytes K) (c / byte_bits) 0 k)
+      ∙ get_or-append (packed_row K row) after 0 (c / byte_bits) (rw length_packed_row k) ∙ get_or_tab (packed_byte row) (row_bytes K) (c / byte_bits) 0 k)
       ∙ bit_of_packed_byte row c
 
   module _ (width : length row ≡ K) where
@@ -51,7 +51,7 @@ module _ (K : ℕ) (before : List ℕ) (row : List Bool) (after : List ℕ) wher
         row
         (long ∙ sym width)
         (λ c h. let k : c < K = rw long at h in
-        getD_tab (row_bit table (length before)) K c false k ∙ bit_of_packed_row c (omega arith))
+        get_or_tab (row_bit table (length before)) K c false k ∙ bit_of_packed_row c (omega arith))
 
     pub row_filled_packed : row_filled K table (length before) ≡ true
     row_filled_packed =
@@ -62,7 +62,7 @@ bytes_of_tab : (f : ℕ → ℕ) (n : ℕ) → ((i : ℕ) → f i < 2 ^ byte_bit
 bytes_of_tab f n b i = go (dec_lt i n)
   where
     go : Dec (i < n) → get_or (tab f n) i 0 < 2 ^ byte_bits
-    go (yes h) = rw (getD_tab f n i 0 h) (b i)
+    go (yes h) = rw (get_or_tab f n i 0 h) (b i)
     go (no h) = rw (get_or-eq_default (tab f n) 0 {n = i} (rw length_tab (omega arith))) (lit< tt)
 
 pub bytes_of_packed_row : (K : ℕ) (row : List Bool) → AreBytes (packed_row K row)

@@ -10,7 +10,7 @@ use lib.ListN.{length, get_or, take, length-append}
 use lib.Seq.{ext_get_or}
 use Rattle.region.specs.Tab.{tab}
 use Rattle.region.specs.Pmemspec.{ChunkCorresponds, CanResultFromPartialWrite}
-use Rattle.region.proofs.Tab.{length_tab, getD_tab}
+use Rattle.region.proofs.Tab.{length_tab, get_or_tab}
 use Rattle.pieces.specs.AsyncSpec.{Write, apply_write, AsyncView, size_to_chunks, apply_write_selective, flush_selective, write, CanCrashAs, CanCrash}
 use Rattle.pieces.proofs.Touched.{chunk_below}
 use Rattle.cuts.specs.Bits.{covers, view_chunks}
@@ -75,7 +75,7 @@ module _ (C : ℕ) (b : List ℕ) (w : Write) where
       same i h =
           let k : i < length b = rw p.same_length at h in
           byte i h k (p.each_chunk (i / C))
-          ∙ sym (byte_of_selective C b w row i k ∙ rw (getD_tab choice K (i / C) false (chunk_below C C⁺ i (length b) k)))
+          ∙ sym (byte_of_selective C b w row i k ∙ rw (get_or_tab choice K (i / C) false (chunk_below C C⁺ i (length b) k)))
 
 module _ (C : ℕ) (C⁺ : 0 < C) (v : AsyncView) (w : Write) where
   abbrev n : ℕ

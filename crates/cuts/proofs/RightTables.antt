@@ -11,7 +11,7 @@ use lib.ListN.{length, get_or, take, drop, length-drop, take-append-drop, get_or
 use lib.Seq.{ext_get_or, get_or-take, get_or-drop, drop-drop, length-take-le}
 use borrow.Author.Tests.{eqb-true}
 use Rattle.region.proofs.Booleans.{both}
-use Rattle.region.proofs.Tab.{length_tab, getD_tab}
+use Rattle.region.proofs.Tab.{length_tab, get_or_tab}
 use Rattle.pieces.specs.Rows.{byte_bits, row_bytes, row_bit, row_at, rows_at, row_filled, rows_filled, rows_right}
 use Rattle.pieces.specs.Choice.{keeps_point}
 use Rattle.pieces.proofs.RowBits.{row_at_bit}
@@ -54,7 +54,7 @@ module _ (K : ℕ) (table : List ℕ) (bytes : AreBytes table) where
         (take (row_bytes K) (drop at table))
         (long ∙ sym (length-take-le (row_bytes K) (drop at table) (omega arith)))
         (λ k h. let inside : k < row_bytes K = rw long at h in
-        getD_tab (packed_byte (row_at K table at)) (row_bytes K) k 0 inside
+        get_or_tab (packed_byte (row_at K table at)) (row_bytes K) k 0 inside
         ∙ byte_again k inside ∙ sym (get_or-take (row_bytes K) (drop at table) k 0 inside ∙ get_or-drop at table k 0))
 
   -- the rows from a place on, packed again, are the table from there on

@@ -6,7 +6,7 @@ use mathlib.Core.Bool.{Bool, false, ◌&&◌}
 use mathlib.Core.List.{List}
 use lib.ListN.{length, get_or}
 use Rattle.region.specs.Limits.{const_persistence_chunk_size}
-use Rattle.region.proofs.Tab.{getD_tab, inside_in}
+use Rattle.region.proofs.Tab.{get_or_tab, inside_in}
 use Rattle.pieces.specs.AsyncSpec.{write_of}
 use Rattle.pieces.specs.Choice.{touched, keeps_point, row_of}
 
@@ -27,5 +27,5 @@ chosen_bit K addr bytes m j h k =
     let n = touched C addr (length bytes) in
     let c = (addr + j) / C in
     let touches_it = byte_touches addr (length bytes) j h in
-    getD_tab _ K c false k
+    get_or_tab _ K c false k
     ∙ ap (λ (b : Bool). b && keeps_point m (c - addr / C)) (inside_in (addr / C) n c (omega arith) (omega (arith, touches_it)))

@@ -12,7 +12,7 @@ use mathlib.Core.List.{List, []}
 use lib.ListN.{length, get_or, take, drop, set, length-set, length-drop}
 use lib.Seq.{ext_get_or, get_or-take, get_or-drop, get_or-set_same, get_or-set_other, length-take-le}
 use Rattle.region.specs.Tab.{tab, inside}
-use Rattle.region.proofs.Tab.{length_tab, getD_tab, agree_tab, inside_in, inside_below, inside_above}
+use Rattle.region.proofs.Tab.{length_tab, get_or_tab, agree_tab, inside_in, inside_below, inside_above}
 use Rattle.region.specs.Pmemspec.{update_bytes, extract_bytes}
 
 unfoldable pub lay : (keep : ℕ → Bool) (s : List ℕ) (addr : ℕ) (bytes : List ℕ) → List ℕ
@@ -45,14 +45,14 @@ module _ (keep : ℕ → Bool) (s : List ℕ) (addr : ℕ) where
       → get_or (lay keep s addr bytes) i 0 ≡ cond (keep i) (get_or bytes (i - addr) 0) (get_or s i 0)
   unfolding lay
   lay_in bytes i h l u =
-      getD_tab _ (length s) i 0 h
+      get_or_tab _ (length s) i 0 h
       ∙ ap (λ (b : Bool). cond (b && keep i) (get_or bytes (i - addr) 0) (get_or s i 0)) (inside_in addr (length bytes) i l u)
 
   -- a byte that it does not cover
   pub lay_out : (bytes : List ℕ) (i : ℕ) → i < length s → inside addr (length bytes) i ≡ false → get_or (lay keep s addr bytes) i 0 ≡ get_or s i 0
   unfolding lay
   lay_out bytes i h o =
-      getD_tab _ (length s) i 0 h ∙ ap (λ (b : Bool). cond (b && keep i) (get_or bytes (i - addr) 0) (get_or s i 0)) o
+      get_or_tab _ (length s) i 0 h ∙ ap (λ (b : Bool). cond (b && keep i) (get_or bytes (i - addr) 0) (get_or s i 0)) o
 
   pub lay_below : (bytes : List ℕ) (i : ℕ) → i < length s → i < addr → get_or (lay keep s addr bytes) i 0 ≡ get_or s i 0
   lay_below bytes i h l = lay_out bytes i h (inside_below addr (length bytes) i l)

@@ -7,12 +7,12 @@ use mathlib.Core.Path.{◌≡◌}
 use mathlib.Core.Bool.{false, ◌&&◌}
 use mathlib.Core.List.{List, ◌∷◌}
 use lib.ListN.{get_or}
-use Rattle.region.proofs.Tab.{getD_tab}
+use Rattle.region.proofs.Tab.{get_or_tab}
 use Rattle.pieces.specs.Rows.{row_at, row_bit, row_bytes, rows_at, row_filled, rows_filled}
 
 pub row_at_bit : (K : ℕ) (table : List ℕ) (at c : ℕ) → c < K → get_or (row_at K table at) c false ≡ row_bit table at c
 unfolding row_at
-row_at_bit K table at c h = getD_tab (row_bit table at) K c false h
+row_at_bit K table at c h = get_or_tab (row_bit table at) K c false h
 
 -- one width less for one row less
 pub one_less : (n width : ℕ) → 0 < n → n * width ≡ width + (n - 1) * width

@@ -16,11 +16,11 @@ module _ {ℓ} {A : Type ℓ} where
   length_from f at zero = refl
   length_from f at (suc n) = ap suc (length_from f (suc at) n)
 
-  getD_from : (f : ℕ → A) (at n i : ℕ) (d : A) → i < n → get_or (tab_from f at n) i d ≡ f (at + i)
+  get_or_from : (f : ℕ → A) (at n i : ℕ) (d : A) → i < n → get_or (tab_from f at n) i d ≡ f (at + i)
   unfolding tab_from
-  getD_from f at zero i d h = absurd (not-suc-le-zero h)
-  getD_from f at (suc n) zero d h = ap f (sym (add-zero at))
-  getD_from f at (suc n) (suc i) d h = getD_from f (suc at) n i d (le_of_suc-le-suc h) ∙ ap f (suc-add at i ∙ sym (add-suc at i))
+  get_or_from f at zero i d h = absurd (not-suc-le-zero h)
+  get_or_from f at (suc n) zero d h = ap f (sym (add-zero at))
+  get_or_from f at (suc n) (suc i) d h = get_or_from f (suc at) n i d (le_of_suc-le-suc h) ∙ ap f (suc-add at i ∙ sym (add-suc at i))
 
   agree_from : (f g : ℕ → A) (at n : ℕ) → ((i : ℕ) → at ≤ i → i < at + n → f i ≡ g i) → tab_from f at n ≡ tab_from g at n
   unfolding tab_from
@@ -31,9 +31,9 @@ module _ {ℓ} {A : Type ℓ} where
   unfolding tab
   length_tab f n = length_from f 0 n
 
-  pub getD_tab : (f : ℕ → A) (n i : ℕ) (d : A) → i < n → get_or (tab f n) i d ≡ f i
+  pub get_or_tab : (f : ℕ → A) (n i : ℕ) (d : A) → i < n → get_or (tab f n) i d ≡ f i
   unfolding tab
-  getD_tab f n i d h = getD_from f 0 n i d h ∙ ap f (zero-add i)
+  get_or_tab f n i d h = get_or_from f 0 n i d h ∙ ap f (zero-add i)
 
   -- two functions that agree below n have one table
   pub agree_tab : (f g : ℕ → A) (n : ℕ) → ((i : ℕ) → i < n → f i ≡ g i) → tab f n ≡ tab g n
