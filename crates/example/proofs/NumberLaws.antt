@@ -26,7 +26,7 @@ use Rattle.rounds.specs.Answer.{run_answer_number}
 use Rattle.rounds.specs.Steps.{Under}
 use Rattle.example.specs.Run.{rounds_limit, fits_number, run_number, Runs, Repeats}
 use Rattle.rounds.specs.declared.RunAnswer.{RunAnswer}
-use Rattle.rounds.specs.declared.RunAnswer.TheVariants.{Done, Refused}
+use Rattle.rounds.specs.declared.RunAnswer.TheVariants.{Refused}
 
 -- setup
 module _ (image : List ℕ) (addr val0 : ℕ) where
