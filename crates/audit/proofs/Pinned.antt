@@ -4,7 +4,7 @@ use Prim.Native.Nat.{ℕ}
 use native.Mathlib.Omega.{arith}
 use mathlib.Core.Path.{◌≡◌, refl, sym, ap}
 use mathlib.Core.List.{List}
-use denote.Ref.{Bor}
+use denote.Ref.{MutBor}
 use Rattle.region.specs.Answer.{Report, answer_number}
 use Rattle.region.specs.declared.Answer.{Answer}
 use Rattle.region.proofs.AnswerLaws.{answers_by_number, refusals_by_number}
@@ -82,7 +82,7 @@ module _ (d : Desk) where
   fill_pinned work addr len = pin answer_number answers_by_number (λ a l p. p.answers) (λ a l p. p.fills)
 
   -- the part that a read hands back: its place and its bytes, which are all that a machine has of it
-  pub read_pinned : (work : Bor (List ℕ)) (addr len : ℕ) (r t : Bor (List ℕ)) → HandsBack d work addr len r → HandsBack d work addr len t
+  pub read_pinned : (work : MutBor (List ℕ)) (addr len : ℕ) (r t : MutBor (List ℕ)) → HandsBack d work addr len r → HandsBack d work addr len t
       → ◌≡◌ {A = ℕ × ℕ × List ℕ} (r.ref_ptr.0, r.ref_ptr.1, r.now) (t.ref_ptr.0, t.ref_ptr.1, t.now)
   read_pinned work addr len r t p q = λ i. (same p.block q.block i, same p.offset q.offset i, same p.bytes q.bytes i)
 

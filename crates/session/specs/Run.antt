@@ -2,7 +2,7 @@
 -- `writelog`, `gate` and `tape` are proved to keep, on the desk's own bytes, whatever the answer. No step asks that anything holds of the desk. A
 -- plain write, or one by tape, that no verdict on this very desk admitted is no step unless it is refused.
 use Rattle.std.specs.Prelude.{ℕ, ◌+◌, ◌≡◌, List}
-use Rattle.std.specs.Borrow.{Bor}
+use Rattle.std.specs.Borrow.{MutBor}
 use Rattle.region.specs.declared.Answer.{Answer}
 use Rattle.region.specs.declared.Answer.TheVariants.{Done, Refused}
 use Rattle.region.specs.declared.Refusal.{Refusal}
@@ -77,7 +77,7 @@ module _ (sheet : List ℕ) where
     fill : {d : Desk} {work work' : List ℕ} {addr len : ℕ} {answer : Answer}
         → Fills d work addr len answer work'
         → Step d nothing d
-    read : {d : Desk} {work part : Bor (List ℕ)} {addr len : ℕ}
+    read : {d : Desk} {work part : MutBor (List ℕ)} {addr len : ℕ}
         → HandsBack d work addr len part
         → Step d nothing d
 

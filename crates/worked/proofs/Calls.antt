@@ -4,7 +4,7 @@ use Prim.Native.Nat.{ℕ}
 use mathlib.Core.Path.{refl}
 use mathlib.Core.List.{List, [], ◌∷◌}
 use lib.ListN.{replicate, set}
-use denote.Ref.{Bor}
+use denote.Ref.{MutBor}
 use Rattle.region.specs.Limits.{writes_limit, log_limit}
 use Rattle.region.specs.declared.Answer.TheVariants.{Done, Refused}
 use Rattle.region.specs.declared.Refusal.TheVariants.{OutOfRange, BrokenImage, BadRows, BadTape, NotPredicted}
@@ -124,7 +124,7 @@ unfolding calls
 the_refused_fill = record { answers = refl; fills = refl }
 
 -- a lent working image, and the byte of it that a read of one byte at 8 hands back
-abbrev a_lent : (offset : ℕ) (bytes : List ℕ) → Bor (List ℕ)
+abbrev a_lent : (offset : ℕ) (bytes : List ℕ) → MutBor (List ℕ)
 a_lent offset bytes = record { ref_ptr = (3, offset); ghost_name = 7; now = bytes }
 
 pub the_read : HandsBack (logged zeros 0xAA) (a_lent 0 zeros) 8 1 (a_lent 8 (0xAA ∷ []))
