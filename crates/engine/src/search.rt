@@ -29,6 +29,7 @@ fn obeyed(sheet: &[u8], image: &[u8]) -> bool
 
 // Tries all numbers from 0 to 2^points - 1. What it leaves in `work` is its last trial: the first
 // bad image, or the read image, which the last number leaves.
+#[inline(always)]
 pub fn search(
     state: State,
     image: &[u8],

@@ -27,6 +27,7 @@ fn formed(sheet: &[u8], image: &[u8]) -> bool
 }
 
 // The judging of a write that fits, from 7 on: the engine is asked if the points are few enough.
+#[inline(always)]
 fn weigh(
     state: State,
     image: &[u8],
@@ -51,6 +52,7 @@ fn weigh(
 }
 
 // The judging of a sound state with `used` outstanding bytes.
+#[inline(always)]
 pub(crate) fn decide(
     state: State,
     used: usize,
