@@ -37,13 +37,6 @@ touched-sum-requires c =
     let here = next_here c.args.state c.loop-i.i c.requires c.loop-i-test.true c.loop-i.invariant.3 in
     omega (arith, here.lies)
 
-pub overflow_add-sum : goal.overflow_add-sum
-overflow_add-sum c =
-    let st = c.args.state in
-    let r = next st c.loop-i.i in
-    let here = next_here st c.loop-i.i c.requires c.loop-i-test.true c.loop-i.invariant.3 in
-    omega (arith, c.loop-i.invariant.2, here.bytes, c.touched-sum.ensures, touched_le r.addr r.len, c.requires.room)
-
 pub loop-i-preserved : goal.loop-i-preserved
 loop-i-preserved c =
     let st = c.args.state in
@@ -55,6 +48,13 @@ loop-i-preserved c =
       here.inside,
       omega (arith, c.loop-i.invariant.4, here.points, c.touched-sum.ensures),
     )
+
+pub overflow_add-sum : goal.overflow_add-sum
+overflow_add-sum c =
+    let st = c.args.state in
+    let r = next st c.loop-i.i in
+    let here = next_here st c.loop-i.i c.requires c.loop-i-test.true c.loop-i.invariant.3 in
+    omega (arith, c.loop-i.invariant.2, here.bytes, c.touched-sum.ensures, touched_le r.addr r.len, c.requires.room)
 
 pub returns : goal.returns
 unfolding record_points

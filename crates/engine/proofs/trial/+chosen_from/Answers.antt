@@ -46,6 +46,14 @@ lay_chosen-requires-clause-bytes_bound t c =
 pub touched-requires : goal.touched-requires
 touched-requires t c = let s = step c.requires.remaining (pos_of_ne-zero c.if-left-eq0.false) in omega (arith, s.lies, c.requires.remaining.short)
 
+pub returns : goal.returns
+returns t c =
+    let a = c.args in
+    let s = step c.requires.remaining (pos_of_ne-zero c.if-left-eq0.false) in
+    c.chosen_from.ensures
+    ∙ ap (at_last a.work.now)
+    (replay_step C a.work.now.now a.log.now.now a.m s refl c.lay_chosen.ensures c.lay_chosen.auto.work c.touched.ensures refl)
+
 pub overflow_shr-above : goal.overflow_shr-above
 overflow_shr-above t c =
     let a = c.args in
@@ -58,11 +66,3 @@ chosen_from-requires t c =
     let some = pos_of_ne-zero c.if-left-eq0.false in
     let s = step c.requires.remaining some in
     (omega (arith, c.decreases, some), rw c.lay_chosen.auto.work (s.after, omega (arith, pointed a.words.now a.next a.left a.at s c.requires.left_bound)))
-
-pub returns : goal.returns
-returns t c =
-    let a = c.args in
-    let s = step c.requires.remaining (pos_of_ne-zero c.if-left-eq0.false) in
-    c.chosen_from.ensures
-    ∙ ap (at_last a.work.now)
-    (replay_step C a.work.now.now a.log.now.now a.m s refl c.lay_chosen.ensures c.lay_chosen.auto.work c.touched.ensures refl)

@@ -23,22 +23,6 @@ log_points-requires c =
       room = facts.room;
     }
 
--- no sum wraps: a log has no more points than bytes, and a write no more than the image
-pub overflow_add-n : goal.overflow_add-n
-overflow_add-n c =
-    let a = c.args in
-    let facts = sound_facts _ a.state _ c.requires.good in
-    omega (
-      arith,
-      c.touched.ensures,
-      c.log_points.ensures,
-      record_points_le (log_records a.state),
-      facts.room,
-      facts.short,
-      touched_le a.addr (length a.bytes.now),
-      c.requires.lies,
-    )
-
 pub returns-then-n-gt-POINTS_LIMIT : goal.returns-then-n-gt-POINTS_LIMIT
 returns-then-n-gt-POINTS_LIMIT c =
     let a = c.args in
@@ -65,3 +49,19 @@ returns-in-FirstBad c =
     let points : c.log_points.result + c.touched.result ≡ gate_points d w =
     ap₂ (◌+◌) c.log_points.ensures c.touched.ensures ∙ sym (points_with_a_write d w c.requires.good) in
     weighs_denied c.requires (omega (arith, points, c.if-n-gt-POINTS_LIMIT.false)) c.search.ensures c.in-FirstBad.is
+
+-- no sum wraps: a log has no more points than bytes, and a write no more than the image
+pub overflow_add-n : goal.overflow_add-n
+overflow_add-n c =
+    let a = c.args in
+    let facts = sound_facts _ a.state _ c.requires.good in
+    omega (
+      arith,
+      c.touched.ensures,
+      c.log_points.ensures,
+      record_points_le (log_records a.state),
+      facts.room,
+      facts.short,
+      touched_le a.addr (length a.bytes.now),
+      c.requires.lies,
+    )
