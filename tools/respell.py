@@ -16,6 +16,8 @@ DECL = re.compile(r"^(\s*)((?:(?:pub|abbrev|unfoldable|record|data|infixl|infixr
 KEEP = {"Type"}
 # What would fall together with another name in some file, by hand.
 BY_HAND = {}
+# English that is spelled as a name of ours, and the original's name beside ours: comments keep them.
+PROSE = {"part-write", "part-writes", "well-formed", "view-chunks", "valid"}
 OPERATOR = re.compile(r"◌")
 
 
@@ -25,7 +27,7 @@ def camel(n):
 
 def snake(n):
     # The toolchain's script made `get_or` of `getD`, but not in names of ours, and gave one of ours an ending.
-    return n.replace("-", "_").replace("getD", "get_or").replace("number_of_lem", "number_of")
+    return n.replace("-", "_").replace("getD", "get_or").replace("get_d_tail", "get_or_tail").replace("number_of_lem", "number_of")
 
 
 def own_files():
@@ -116,9 +118,12 @@ def main():
                     foreign.add(n)
         return scope, foreign
 
-    def turn(text, scope, foreign, in_source):
+    def turn(text, scope, foreign):
         def one(m):
             n = m.group(0)
+            line = text[text.rfind("\n", 0, m.start()) + 1 : m.start()]
+            if n in PROSE and re.search(r"--|//", line):
+                return n
             before = text[: m.start()][-1:]
             if before == "." and n in fields and n not in ("",):
                 return fields[n]
@@ -152,7 +157,7 @@ def main():
     clash = []
     for p, t in texts.items():
         scope, foreign = scope_of(p, t)
-        new = turn(t, scope, foreign, False)
+        new = turn(t, scope, foreign)
         if not p.endswith("Proof.antt"):
             new = bound(new, foreign)
         used = {}
@@ -181,7 +186,7 @@ def main():
         for a, b in sorted(spans):
             if a < at:
                 continue
-            parts += [t[at:a], turn(t[a:b], scope, foreign, True)]
+            parts += [t[at:a], turn(t[a:b], scope, foreign)]
             at = b
         sources[p] = "".join(parts) + t[at:]
         fns = set(re.findall(r"\bfn (\w+)|\b(?:struct|enum|const|static|mod) (\w+)", t) and [x for y in re.findall(r"\bfn (\w+)|\b(?:struct|enum|const|static|mod) (\w+)", t) for x in y if x])

@@ -1,4 +1,4 @@
--- Rows that agree in the view_chunks that the writes touch leave the same image: only those bits choose anything. Assumes nothing.
+-- Rows that agree in the chunks that the writes touch leave the same image: only those bits choose anything. Assumes nothing.
 use Prim.Native.Nat.{ℕ, ◌/◌, ◌<◌}
 use mathlib.Core.Path.{◌≡◌, refl, sym, ◌∙◌}
 use mathlib.Core.Bool.{Bool}
@@ -35,7 +35,7 @@ module _ (C : ℕ) (C⁺ : 0 < C) where
       refl
       (λ j k. a j (i / C) (chunk_below C C⁺ i (length s) (rw long at h)) (covered_is_touched C C⁺ (write_at ws j) i k)))
 
-  -- "Bits of untouched view_chunks change nothing."
+  -- "Bits of untouched chunks change nothing."
   pub untouched_bits_change_nothing : (v : AsyncView) (rows rows' : List (List Bool)) → AgreeOnTouched C (view_chunks C v) v.outstanding_writes rows rows'
       → flush_selective C v rows ≡ flush_selective C v rows'
   untouched_bits_change_nothing v rows rows' a = same_touched_bits_same_replay v.state_at_last_flush v.outstanding_writes rows rows' a

@@ -11,7 +11,7 @@ use Rattle.region.proofs.Tab.{get_or_tab}
 use Rattle.pieces.specs.AsyncSpec.{Write, apply_write, apply_write_selective, flush_writes_selective}
 use Rattle.cuts.specs.Bits.{write_at, row_bit_at, covers}
 use Rattle.cuts.proofs.Lengths.{length_apply_write_selective, length_flush_writes_selective}
-use Rattle.cuts.proofs.Basics.{get_d_tail}
+use Rattle.cuts.proofs.Basics.{get_or_tail}
 
 -- what stands at byte i after one write, whole or by its row
 pub byte_of_write : (s : List ℕ) (w : Write) (i : ℕ) → i < length s
@@ -52,7 +52,7 @@ module _ (C i : ℕ) where
       (rw length_apply_write_selective h)
       (length_apply_write_selective C s w _ ∙ l ∙ sym (length_apply_write_selective C s' w _))
       (column_step s s' w (get_or rows 0 []) (get_or rows' 0 []) h l e (b 0))
-      (λ j k. rw (get_d_tail rows j [], get_d_tail rows' j []) (b (suc j) k))
+      (λ j k. rw (get_or_tail rows j [], get_or_tail rows' j []) (b (suc j) k))
 
   -- the two images may differ elsewhere, and the rows in other columns
   pub column_alone : (s s' : List ℕ) (ws : List Write) (rows rows' : List (List Bool)) → length s ≡ length s' → get_or s i 0 ≡ get_or s' i 0

@@ -9,7 +9,7 @@ use Rattle.pieces.specs.AsyncSpec.{Write, AsyncView, apply_write, apply_write_se
 use Rattle.pieces.proofs.Touched.{chunk_below}
 use Rattle.cuts.specs.Bits.{write_at, row_bit_at, covers, KeepsAll, view_chunks}
 use Rattle.cuts.proofs.Lengths.{length_apply_write, length_apply_write_selective}
-use Rattle.cuts.proofs.Basics.{get_d_tail, covered_is_touched}
+use Rattle.cuts.proofs.Basics.{get_or_tail, covered_is_touched}
 use Rattle.cuts.proofs.Column.{byte_of_write, byte_of_selective}
 
 emptied : (s : List ℕ) (ws : List Write) → flush_writes s ws ≡ record { state_at_last_flush = (flush_writes s ws).state_at_last_flush; outstanding_writes = [] }
@@ -26,7 +26,7 @@ all_chosen false a x y h = refl
 all_chosen true a x y h = rw (h refl)
 
 module _ (C : ℕ) (C⁺ : 0 < C) where
-  -- a write all of whose bytes are in kept view_chunks is the whole write
+  -- a write all of whose bytes are in kept chunks is the whole write
   pub kept_write_is_the_write : (s : List ℕ) (w : Write) (row : List Bool) → ((i : ℕ) → i < length s → covers w i ≡ true → get_or row (i / C) false ≡ true)
       → apply_write_selective C s w row ≡ apply_write s w
   kept_write_is_the_write s w row b =
@@ -46,7 +46,7 @@ module _ (C : ℕ) (C⁺ : 0 < C) where
   kept_writes_are_the_flush s [] rows b = refl
   kept_writes_are_the_flush s (w ∷ ws) rows b =
       ap (λ x. flush_writes_selective C x ws (drop 1 rows)) (kept_write_is_the_write s w (get_or rows 0 []) (b 0))
-      ∙ kept_writes_are_the_flush (apply_write s w) ws (drop 1 rows) (λ j i h k. rw get_d_tail (b (suc j) i (rw length_apply_write at h) k))
+      ∙ kept_writes_are_the_flush (apply_write s w) ws (drop 1 rows) (λ j i h k. rw get_or_tail (b (suc j) i (rw length_apply_write at h) k))
 
   pub flush_is_the_cut_that_keeps_everything : (v : AsyncView) (rows : List (List Bool)) → KeepsAll C (view_chunks C v) v.outstanding_writes rows
       → flush_selective C v rows ≡ readable v

@@ -11,7 +11,7 @@ use Rattle.pieces.specs.Choice.{touched, points}
 use Rattle.pieces.specs.Kept.{kept, kept_of}
 use Rattle.pieces.proofs.ByteBits.{set_bits_le, set_bits_agree, all_set_bits}
 use Rattle.cuts.specs.Bits.{write_at, row_bit_at, touches_chunk}
-use Rattle.cuts.proofs.Basics.{get_d_tail}
+use Rattle.cuts.proofs.Basics.{get_or_tail}
 
 module _ (C : ℕ) where
   pub kept_at_most_points : (ws : List Write) (rows : List (List Bool)) → kept C ws rows ≤ points C ws
@@ -27,7 +27,7 @@ module _ (C : ℕ) where
   kept_by_touched_bits (w ∷ ws) rows rows' a =
       ap₂ (◌+◌)
       (set_bits_agree _ _ _ _ (λ c l h. a 0 c (inside_in (addr_to_chunk C w.addr) (touched C w.addr (length w.bytes)) c l h)))
-      (kept_by_touched_bits ws (drop 1 rows) (drop 1 rows') (λ j c k. rw (get_d_tail rows j [], get_d_tail rows' j []) (a (suc j) c k)))
+      (kept_by_touched_bits ws (drop 1 rows) (drop 1 rows') (λ j c k. rw (get_or_tail rows j [], get_or_tail rows' j []) (a (suc j) c k)))
 
   pub kept_of_all_touched : (ws : List Write) (rows : List (List Bool))
       → ((j c : ℕ) → touches_chunk C (write_at ws j) c ≡ true → row_bit_at rows j c ≡ true) → kept C ws rows ≡ points C ws
@@ -36,4 +36,4 @@ module _ (C : ℕ) where
   kept_of_all_touched (w ∷ ws) rows a =
       ap₂ (◌+◌)
       (all_set_bits _ _ _ (λ c l h. a 0 c (inside_in (addr_to_chunk C w.addr) (touched C w.addr (length w.bytes)) c l h)))
-      (kept_of_all_touched ws (drop 1 rows) (λ j c k. rw (get_d_tail rows j []) (a (suc j) c k)))
+      (kept_of_all_touched ws (drop 1 rows) (λ j c k. rw (get_or_tail rows j []) (a (suc j) c k)))

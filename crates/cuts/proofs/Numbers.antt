@@ -15,7 +15,7 @@ use Rattle.pieces.specs.Choice.{touched, points, row_of, rows_of}
 use Rattle.pieces.proofs.Touched.{inside_bounds}
 use Rattle.cuts.specs.Bits.{write_at, touches_chunk, AgreeOnTouched, view_chunks}
 use Rattle.cuts.specs.Number.{number_of, choice_image, choice_points}
-use Rattle.cuts.proofs.Basics.{get_d_tail}
+use Rattle.cuts.proofs.Basics.{get_or_tail}
 use Rattle.cuts.proofs.Digits.{bit_of_bits_below, bits_below_high, bits_below_lt, bit_of_ones}
 use Rattle.cuts.proofs.Shape.{shaped_rows_crash}
 use Rattle.cuts.proofs.Agree.{untouched_bits_change_nothing}
@@ -59,7 +59,7 @@ module _ (C : ℕ) where
       let first = addr_to_chunk C w.addr in
       let t = touched C w.addr (length w.bytes) in
       rw (bits_below_high (number_of C ws (drop 1 rows)) (λ c. get_or (get_or rows 0 []) c false) first t)
-      (number_of_agrees K ws (drop 1 rows) j c h k ∙ ap (λ r. get_or r c false) (get_d_tail rows j []))
+      (number_of_agrees K ws (drop 1 rows) j c h k ∙ ap (λ r. get_or r c false) (get_or_tail rows j []))
 
 module _ (C : ℕ) (C⁺ : 0 < C) (v : AsyncView) where
   pub number_leaves_the_image_of_its_rows : (rows : List (List Bool)) → choice_image C v (number_of C v.outstanding_writes rows) ≡ flush_selective C v rows

@@ -1,5 +1,5 @@
 -- With one write more, choice numbers below 2 ^ n leave exactly the pairs of a cut image without the write, under the number's older choices, and a
--- PartWrite over it. Assumes nothing.
+-- part-write over it. Assumes nothing.
 use Prim.Native.Nat.{ℕ, ◌/◌, ◌^◌, ◌<◌}
 use native.Mathlib.Omega.{arith}
 use mathlib.Core.Path.{◌≡◌, sym, ap, subst, ◌∙◌}

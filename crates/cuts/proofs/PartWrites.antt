@@ -1,5 +1,5 @@
--- The images that a cut could leave with one write more are the part_writes over the images that it could leave before, for any log and any write.
--- The new write's row is its choice of view_chunks, and a part-write's choice of view_chunks is a row. Assumes nothing.
+-- The images that a cut could leave with one write more are the part-writes over the images that it could leave before, for any log and any write.
+-- The new write's row is its choice of chunks, and a part-write's choice of chunks is a row. Assumes nothing.
 use Prim.Native.Nat.{ℕ, suc, ◌-◌, ◌/◌, ◌<◌}
 use mathlib.Core.Path.{◌≡◌, refl, sym, ap, subst, ◌∙◌}
 use mathlib.Core.Logic.{◌⊎◌, inl, inr, ◌↔◌}
@@ -20,20 +20,20 @@ use Rattle.cuts.proofs.Column.{byte_of_write, byte_of_selective}
 use Rattle.cuts.proofs.Shape.{shaped_rows_crash, crash_rows_shaped, shape_of_one_more, shape_of_one_less, last_row}
 use Rattle.cuts.proofs.OneMore.{cut_of_a_write}
 
--- a PartWrite says of each chunk whether it was laid
+-- a part-write says of each chunk whether it was laid
 laid : {A B : Type 0} → A ⊎ B → Bool
 laid (inl a) = false
 laid (inr b) = true
 
 module _ (C : ℕ) (b : List ℕ) (w : Write) where
-  -- the whole write is a PartWrite, and so is none of it
+  -- the whole write is a part-write, and so is none of it
   pub whole_write_is_part_write : CanResultFromPartialWrite C (apply_write b w) b w.addr w.bytes
   whole_write_is_part_write = record { same_length = length_apply_write b w; each_chunk = λ c. inr (λ i h k. refl) }
 
   pub no_write_is_part_write : CanResultFromPartialWrite C b b w.addr w.bytes
   no_write_is_part_write = record { same_length = refl; each_chunk = λ c. inl (λ i h k. refl) }
 
-  -- what a row lays of a write is a PartWrite
+  -- what a row lays of a write is a part-write
   pub row_lays_part_write : (row : List Bool) → CanResultFromPartialWrite C (apply_write_selective C b w row) b w.addr w.bytes
   row_lays_part_write row = record { same_length = long; each_chunk = λ c. go c (get_or row c false) refl }
     where
@@ -48,7 +48,7 @@ module _ (C : ℕ) (b : List ℕ) (w : Write) where
           inr
           (λ i h k. byte_of_selective C b w row i (rw long at h) ∙ rw (k, e, and-true (covers w i)) (sym (byte_of_write b w i (rw long at h))))
 
-  -- a PartWrite is what some row lays
+  -- a part-write is what some row lays
   pub part_write_has_row : 0 < C → (y : List ℕ) → CanResultFromPartialWrite C y b w.addr w.bytes
       → (row : List Bool) × (length row ≡ size_to_chunks C (length b)) × (y ≡ apply_write_selective C b w row)
   unfolding laid
@@ -84,7 +84,7 @@ module _ (C : ℕ) (C⁺ : 0 < C) (v : AsyncView) (w : Write) where
   one_longer : length (write v w).outstanding_writes ≡ suc n
   one_longer = length-append v.outstanding_writes (w ∷ []) ∙ add-one n
 
-  -- the rows of a cut with the write in the log: those of a cut without it, and its own, which lays a PartWrite
+  -- the rows of a cut with the write in the log: those of a cut without it, and its own, which lays a part-write
   older_rows : (y : List ℕ) (rows : List (List Bool)) → CanCrashAs C (write v w) y rows
       → CanCrashAs C v (flush_selective C v (take n rows)) (take n rows)
       × (y ≡ apply_write_selective C (flush_selective C v (take n rows)) (w) (get_or rows n []))

@@ -1,4 +1,4 @@
--- A write inside the image touches only the image's own view_chunks, so that a log inside the image has no point that rows of the right shape lack.
+-- A write inside the image touches only the image's own chunks, so that a log inside the image has no point that rows of the right shape lack.
 -- Assumes nothing.
 use Prim.Native.Nat.{ℕ, ◌<◌}
 use mathlib.Core.Path.{◌≡◌}

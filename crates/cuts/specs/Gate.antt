@@ -23,7 +23,7 @@ abbrev pub gate_image : (C : ℕ) → AsyncView → Write → Finding → List �
 gate_image C v w none_bad = readable (write v w)
 gate_image C v w (first_bad m) = choice_image C (write v w) m
 
--- a pair that the write could really make: an image that a cut could leave now, and a PartWrite over it
+-- a pair that the write could really make: an image that a cut could leave now, and a part-write over it
 abbrev pub CouldMake : (C : ℕ) → AsyncView → Write → (b a : List ℕ) → Type 0
 CouldMake C v w b a = CanCrash C v b × CanResultFromPartialWrite C a b w.addr w.bytes
 
@@ -34,7 +34,7 @@ pub record JudgesPairs (C : ℕ) (rule : Test) (v : AsyncView) (w : Write) (r : 
   pub names_the_first : (m : ℕ) → (r ≡ first_bad m) ↔ LeastBad (gate_test C rule v w) (gate_numbers C v w) m
 
 -- demand 2, for a sheet of one image: "admits a write exactly when .. every image that a cut could then leave obeys the rule sheet; when it denies,
--- it names the first bad one". The images are the part_writes over all present cut images.
+-- it names the first bad one". The images are the part-writes over all present cut images.
 pub record JudgesImages (C : ℕ) (obeys : List ℕ → Bool) (v : AsyncView) (w : Write) (r : Finding) : Type 0 where
   pub admits : (r ≡ none_bad) ↔ ((x : List ℕ) → CanCrash C (write v w) x → obeys x ≡ true)
   pub denies : ((m : ℕ) × (r ≡ first_bad m)) ↔ ((x : List ℕ) × CanCrash C (write v w) x × (obeys x ≡ false))

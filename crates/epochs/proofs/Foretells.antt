@@ -1,4 +1,4 @@
--- What a tape foretells of a log, step by step: nothing of an empty one; with one write more, a PartWrite by the new row, or the whole write under
+-- What a tape foretells of a log, step by step: nothing of an empty one; with one write more, a part-write by the new row, or the whole write under
 -- header 80. So the predictor is right at every step and not only at the cut. Assumes nothing.
 use Prim.Native.Nat.{ℕ, ◌+◌, ◌<◌}
 use native.Mathlib.Numerals.{add-one}

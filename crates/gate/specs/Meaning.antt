@@ -34,7 +34,7 @@ module _ (d : Desk) (w : Write) where
   abbrev pub CouldLeave : (x : List ℕ) → Type 0
   CouldLeave x = CanCrash (chunk_size d) (write (view d) w) x
 
-  -- a PartWrite over an image
+  -- a part-write over an image
   abbrev pub PartWrite : (before after : List ℕ) → Type 0
   PartWrite before after = CanResultFromPartialWrite (chunk_size d) after before w.addr w.bytes
 
@@ -43,7 +43,7 @@ module _ (d : Desk) (w : Write) where
   choice_numbers = gate_numbers (chunk_size d) (view d) w
 
 -- Demand 2, whatever the answer's type: what it is to be admitted, denied, and denied with m. It admits exactly if the write fits and every image that a cut
--- could then leave obeys the sheet, or, which is the same, every PartWrite over every image that a cut could leave now. It denies exactly if the write fits
+-- could then leave obeys the sheet, or, which is the same, every part-write over every image that a cut could leave now. It denies exactly if the write fits
 -- and some such image does not, and names the first: number m, whose image does not obey while those of all smaller numbers do. The working image is then
 -- that image, and for an admitted write what a read will see.
 module _ (d : Desk) (sheet work : List ℕ) (w : Write) where

@@ -10,7 +10,7 @@ pub record PersistentMemoryRegionView : Type 0 where
 abbrev pub len : PersistentMemoryRegionView → ℕ
 len v = length v.read_state
 
--- `Valid`
+-- `valid`
 abbrev pub Valid : PersistentMemoryRegionView → Type 0
 Valid v = length v.read_state ≡ length v.durable_state
 

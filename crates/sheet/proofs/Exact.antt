@@ -219,7 +219,7 @@ module _ (s : List ℕ) where
 pub reads_exactly : (s : List ℕ) {r : Rule} → (read_sheet s ≡ some r) ↔ Says s r
 reads_exactly s = (says_there s, says_back s)
 
--- It is well_formed exactly if there is a rule that it says.
+-- It is well-formed exactly if there is a rule that it says.
 pub formed_exactly : (s : List ℕ) → (well_formed s ≡ true) ↔ ((r : Rule) × Says s r)
 unfolding well_formed
 formed_exactly s = (λ e. there (read_sheet s) refl e, λ w. rw ((reads_exactly s).1 w.1))

@@ -87,7 +87,7 @@ module _ (s image : List ℕ) where
         go true true e = absurd (omega (arith, e))
         go true false e = (refl, refl)
 
--- What is obeyed is well_formed, and what is malformed nothing obeys.
+-- What is obeyed is well-formed, and what is malformed nothing obeys.
 pub obeyed_is_formed : (s before after : List ℕ) → obeys s before after ≡ true → well_formed s ≡ true
 unfolding obeys well_formed
 obeyed_is_formed s before after = go (read_sheet s)

@@ -42,7 +42,7 @@ abbrev pub group_told : Kind → (image : List ℕ) → Found Rules → Step
 group_told k image malformed = Malformed
 group_told k image (got ms next) = Good next (members_hold ms k image image)
 
--- A whole sheet: whether it is well_formed, and whether its rule holds.
+-- A whole sheet: whether it is well-formed, and whether its rule holds.
 abbrev pub judged_by : (formed obeyed : Bool) → Judged
 judged_by false obeyed = Malformed_sheet
 judged_by true true = Obeys

@@ -1,5 +1,5 @@
 -- The rule sheet of document 01: its rules, how it is read and what an image must be to obey it.
--- A sheet is a list of bytes, "bit-packed, most significant bit first". Reading it needs no image, so whether a sheet is well_formed can't
+-- A sheet is a list of bytes, "bit-packed, most significant bit first". Reading it needs no image, so whether a sheet is well-formed can't
 -- depend on one.
 use Rattle.std.specs.Prelude.{ℕ, zero, suc, ◌-◌, max, Bool, true, false, ◌&&◌, ◌||◌, List, leb, ltb, eqb, length, get_or}
 use Rattle.std.proofs.Math.Option.{Option, none, some}

@@ -1,4 +1,4 @@
-// The rule sheet: `judge` says whether a sheet is well_formed, and if so whether an image obeys it. Proved: for every sheet and every image
+// The rule sheet: `judge` says whether a sheet is well-formed, and if so whether an image obeys it. Proved: for every sheet and every image
 // the answer has the number `sheet_number` of `specs/Sheet.antt`. Assumed: nothing.
 
 #![tactic(auto)]
