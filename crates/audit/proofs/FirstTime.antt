@@ -25,7 +25,6 @@ use Rattle.example.specs.Run.{run_number, Runs}
 use Rattle.rounds.specs.Steps.{Under, Goes}
 use Rattle.example.specs.Run.{Repeats}
 use Rattle.rounds.specs.declared.RunAnswer.TheVariants.{Done}
-use Rattle.rounds.proofs.ByteLog.{byte_write}
 use Rattle.example.proofs.NumberLaws.{Fit, run_0_fits, opening_decides}
 use Rattle.rounds.proofs.SheetLaws.{app_sheet_formed, sheet_says_valid}
 use Rattle.rounds.proofs.StepLaws.{once_admissible, once, twice_admissible, twice, both_written, logged_both, pair_goes, first_value, second_value}
@@ -33,21 +32,16 @@ use Rattle.rounds.proofs.StepLaws.{under_after, under_turned, goes_on}
 use Rattle.example.proofs.RepeatLaws.{repeats_none, repeats_more}
 use Rattle.boundary.specs.Lent.{Lent, desk_of, lent_of}
 use Rattle.boundary.specs.Example.{SkaldriftRun}
-use Rattle.session.specs.History.{History, opening, ◌then◌, written, flushed, happen, replay}
+use Rattle.session.specs.History.{History, opening, happen, replay}
 use Rattle.session.specs.Run.{Run, opened, ◌and◌, gate, flush, Throughout}
 use Rattle.session.specs.Theorem.{Session}
 use Rattle.session.proofs.Theorem.{session, session_throughout}
 use Rattle.linked.specs.Calls.{Calls}
 use Rattle.linked.proofs.Runs.{linked_session}
 use Rattle.linked.proofs.Linking.{run_is_calls}
+pub use Rattle.audit.proofs.Round.{pair_of, round_of}
 
--- the history of a pair of writes, flushed, and of the rounds
-abbrev pub pair_of : (addr first second : ℕ) → History → History
-pair_of addr first second h = h then written (byte_write addr first) then written (byte_write addr second) then flushed
-
-abbrev pub round_of : (addr val0 val1 : ℕ) → History → History
-round_of addr val0 val1 h = pair_of addr val1 val0 (pair_of addr val0 val1 h)
-
+-- the history of the rounds
 pub rounds_of : (addr val0 val1 rounds : ℕ) → History
 rounds_of addr val0 val1 zero = opening
 rounds_of addr val0 val1 (suc n) = round_of addr val0 val1 (rounds_of addr val0 val1 n)

@@ -1,7 +1,8 @@
--- Clauses of the original that follow from what is promised here. `Accepted`: its `inv`. `FirstTime`: its `main_first_time`. `EachChunk`: its "or".
--- `Clauses`: others.
+-- Clauses of the original that follow from what is promised here. `Accepted`: its `inv`. `FirstTime`: its `main_first_time`, over the history of a
+-- round (`Round`). `EachChunk`: its "or". `Clauses`: others.
 pub mod Clauses
 pub mod Accepted
+pub mod Round
 pub mod FirstTime
 pub mod EachChunk
 -- No promise leaves a choice: the scheme, the library's calls, and the functions that firmware links.
