@@ -9,63 +9,62 @@ use mathlib.Core.List.{List, [], ◌∷◌}
 use lib.ListN.{get_or}
 use Rattle.region.specs.declared.Refusal.{Refusal}
 use Rattle.region.specs.declared.Refusal.TheVariants.{BadState, OutOfRange, TooManyWrites, TooManyBytes, BadSheet, BrokenImage, TooManyPoints, BadRows, BadTape, NotPredicted, TooManyRounds}
-use Rattle.region.specs.declared.Answer.{Answer}
-use Rattle.region.specs.declared.Answer.TheVariants.{Done, Refused}
-use Rattle.region.specs.Answer.{refusal_number, answer_number, unless, if_done}
+use Rattle.std.specs.Prelude.{Ok, Err}
+use Rattle.region.specs.Answer.{Answer, done, refusal_number, answer_number, unless, if_done}
 
 -- the answers in the order of their numbers. 8 is none of them: it reports a number, and is the gate's own.
 answers : List Answer
 answers =
-    Done
-    ∷ Refused BadState
-    ∷ Refused OutOfRange
-    ∷ Refused TooManyWrites
-    ∷ Refused TooManyBytes
-    ∷ Refused BadSheet
-    ∷ Refused BrokenImage
-    ∷ Refused TooManyPoints
-    ∷ Done
-    ∷ Refused BadRows
-    ∷ Refused BadTape
-    ∷ Refused NotPredicted
-    ∷ Refused TooManyRounds
+    done
+    ∷ Err BadState
+    ∷ Err OutOfRange
+    ∷ Err TooManyWrites
+    ∷ Err TooManyBytes
+    ∷ Err BadSheet
+    ∷ Err BrokenImage
+    ∷ Err TooManyPoints
+    ∷ done
+    ∷ Err BadRows
+    ∷ Err BadTape
+    ∷ Err NotPredicted
+    ∷ Err TooManyRounds
     ∷ []
 
 answer_of : ℕ → Answer
-answer_of n = get_or answers n Done
+answer_of n = get_or answers n done
 
 answer_of_number : (a : Answer) → answer_of (answer_number a) ≡ a
 unfolding answers answer_of
-answer_of_number Done = refl
-answer_of_number (Refused BadState) = refl
-answer_of_number (Refused OutOfRange) = refl
-answer_of_number (Refused TooManyWrites) = refl
-answer_of_number (Refused TooManyBytes) = refl
-answer_of_number (Refused BadSheet) = refl
-answer_of_number (Refused BrokenImage) = refl
-answer_of_number (Refused TooManyPoints) = refl
-answer_of_number (Refused BadRows) = refl
-answer_of_number (Refused BadTape) = refl
-answer_of_number (Refused NotPredicted) = refl
-answer_of_number (Refused TooManyRounds) = refl
+answer_of_number (Ok unit) = refl
+answer_of_number (Err BadState) = refl
+answer_of_number (Err OutOfRange) = refl
+answer_of_number (Err TooManyWrites) = refl
+answer_of_number (Err TooManyBytes) = refl
+answer_of_number (Err BadSheet) = refl
+answer_of_number (Err BrokenImage) = refl
+answer_of_number (Err TooManyPoints) = refl
+answer_of_number (Err BadRows) = refl
+answer_of_number (Err BadTape) = refl
+answer_of_number (Err NotPredicted) = refl
+answer_of_number (Err TooManyRounds) = refl
 
 -- so a promise of an answer's number settles the answer
 pub answers_by_number : (a b : Answer) → answer_number a ≡ answer_number b → a ≡ b
 answers_by_number a b same = sym (answer_of_number a) ∙ (ap answer_of same ∙ answer_of_number b)
 
 pub refusals_by_number : (a b : Refusal) → refusal_number a ≡ refusal_number b → a ≡ b
-refusals_by_number a b same = let e : Refused a ≡ Refused b = answers_by_number (Refused a) (Refused b) same in cc
+refusals_by_number a b same = let e : Err a ≡ Err b = answers_by_number (Err a) (Err b) same in cc
 
-never_done : (why : Refusal) → Refused why ≡ Done → ⊥
+never_done : (why : Refusal) → Err why ≡ done → ⊥
 never_done why e = let z : ◌≡◌ {A = ℕ} 0 1 = cc in omega arith
 
 -- 0 is 'done' alone, and 8 is no refusal's
 pub refusal_not_done : (why : Refusal) → 0 < refusal_number why
-refusal_not_done why = pos_of_ne-zero (λ none. never_done why (answers_by_number (Refused why) Done none))
+refusal_not_done why = pos_of_ne-zero (λ none. never_done why (answers_by_number (Err why) done none))
 
 pub refusal_not_8 : (why : Refusal) → refusal_number why ≡ 8 → ⊥
 unfolding answers answer_of
-refusal_not_8 why e = never_done why (sym (answer_of_number (Refused why)) ∙ ap answer_of e)
+refusal_not_8 why e = never_done why (sym (answer_of_number (Err why)) ∙ ap answer_of e)
 
 -- a test that was passed, where its refusal has a number above 0
 pub passed : {good : Bool} (why : ℕ) {rest : ℕ} → unless good (suc why) rest ≡ 0 → (good ≡ true) × (rest ≡ 0)

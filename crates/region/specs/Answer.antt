@@ -1,9 +1,7 @@
 -- Document 01's number for each case of an answer ("When the desk says no"), and what a call reports beside it. Every promise goes by these.
-use Rattle.std.specs.Prelude.{ℕ, zero, suc, Bool, cond, List}
+use Rattle.std.specs.Prelude.{ℕ, zero, suc, Bool, cond, List, [], ◌∷◌, ⊤, Result, Ok, Err}
 use Rattle.region.specs.declared.Refusal.{Refusal}
 use Rattle.region.specs.declared.Refusal.TheVariants.{BadState, OutOfRange, TooManyWrites, TooManyBytes, BadSheet, BrokenImage, TooManyPoints, BadRows, BadTape, NotPredicted, TooManyRounds}
-use Rattle.region.specs.declared.Answer.{Answer}
-use Rattle.region.specs.declared.Answer.TheVariants.{Done, Refused}
 
 abbrev pub refusal_number : Refusal → ℕ
 refusal_number BadState = 1
@@ -18,14 +16,26 @@ refusal_number BadTape = 10
 refusal_number NotPredicted = 11
 refusal_number TooManyRounds = 12
 
+-- The answer of a call that reports nothing but document 01's number.
+abbrev pub Answer : Type 0
+Answer = Result ⊤ Refusal
+
+abbrev pub done : Answer
+done = Ok tt
+
 abbrev pub answer_number : Answer → ℕ
-answer_number Done = 0
-answer_number (Refused why) = refusal_number why
+answer_number (Ok unit) = 0
+answer_number (Err why) = refusal_number why
 
 -- A number, and what the call reports with it: n, m or kept where document 01 reports one, and nothing otherwise.
 pub record Report : Type 0 where
   pub number : ℕ
   pub values : List ℕ
+
+-- document 01's number and value for each answer that reports one number where it is done
+abbrev pub counted_report : Result ℕ Refusal → Report
+counted_report (Ok n) = record { number = 0; values = n ∷ [] }
+counted_report (Err why) = record { number = refusal_number why; values = [] }
 
 -- "The first that applies .. is given": a refusal's number unless its test is good, and then what comes after it
 abbrev pub unless {ℓ} : {A : Type ℓ} → Bool → A → A → A

@@ -2,31 +2,22 @@
 ghost use Rattle.std.specs.Prelude.{◌≡◌};
 ghost use Rattle.region.specs.Answer.{answer_number, refusal_number};
 
-use crate::{Answer, Refusal};
+use crate::Refusal;
 
-pub fn refusal_number(why: Refusal) -> u64
-    ensures { result ≡ refusal_number why }
-{
-    match why {
-        Refusal::BadState => 1,
-        Refusal::OutOfRange => 2,
-        Refusal::TooManyWrites => 3,
-        Refusal::TooManyBytes => 4,
-        Refusal::BadSheet => 5,
-        Refusal::BrokenImage => 6,
-        Refusal::TooManyPoints => 7,
-        Refusal::BadRows => 9,
-        Refusal::BadTape => 10,
-        Refusal::NotPredicted => 11,
-        Refusal::TooManyRounds => 12,
+impl From<Refusal> for u64 {
+    ghost from_gives = { λ why n. n ≡ refusal_number why };
+
+    fn from(why: Refusal) -> u64 {
+        why as u64
     }
 }
 
-pub fn answer_number(answer: Answer) -> u64
+// 0 where the call is done.
+pub fn answer_number(answer: Result<(), Refusal>) -> u64
     ensures { result ≡ answer_number answer }
 {
     match answer {
-        Answer::Done => 0,
-        Answer::Refused(why) => refusal_number(why),
+        Ok(()) => 0,
+        Err(why) => why.into(),
     }
 }

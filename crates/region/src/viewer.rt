@@ -4,7 +4,7 @@ ghost use Rattle.std.specs.Prelude.{◌≡◌, length};
 ghost use Rattle.region.specs.Answer.{answer_number};
 ghost use Rattle.region.specs.Viewer.{chosen, viewer_number, Viewed};
 
-use crate::{Answer, IMAGE_LIMIT, Refusal};
+use crate::{IMAGE_LIMIT, Refusal};
 
 // Which of the two lent images is asked.
 #[derive(Clone, Copy)]
@@ -24,19 +24,19 @@ fn choose<'a>(first: &'a [u8], second: &'a [u8], which: Which) -> &'a [u8]
 }
 
 // The answer for an image of l bytes. No sum is made, so none wraps: addr = 2^64-1 with len 2 is 2.
-fn view_answer(l: usize, addr: usize, len: usize) -> Answer
+fn view_answer(l: usize, addr: usize, len: usize) -> Result<(), Refusal>
     ensures { answer_number result ≡ viewer_number l addr len }
 {
     if IMAGE_LIMIT < l {
-        return Answer::Refused(Refusal::BadState);
+        return Err(Refusal::BadState);
     }
     if l < addr {
-        return Answer::Refused(Refusal::OutOfRange);
+        return Err(Refusal::OutOfRange);
     }
     if l - addr < len {
-        return Answer::Refused(Refusal::OutOfRange);
+        return Err(Refusal::OutOfRange);
     }
-    Answer::Done
+    Ok(())
 }
 
 // The asked part, of the caller's own memory; on any refusal an empty part. The other image's
@@ -51,7 +51,7 @@ pub fn viewer<'a>(
     ensures { Viewed (chosen which first.entry second.entry) addr len result }
 {
     let image = choose(first, second, which);
-    let Answer::Done = view_answer(image.len(), addr, len) else {
+    let Ok(()) = view_answer(image.len(), addr, len) else {
         return &image[..0];
     };
     let end = addr + len;
@@ -65,7 +65,7 @@ pub fn viewer_number<'a>(
     which: Which,
     addr: usize,
     len: usize,
-) -> Answer
+) -> Result<(), Refusal>
     ensures { answer_number result ≡ viewer_number (length (chosen which first.entry second.entry).now) addr len }
 {
     let image = choose(first, second, which);
