@@ -6,9 +6,7 @@ use mathlib.Core.Bool.{true}
 use mathlib.Core.List.{List}
 use lib.ListN.{length, set, length-set}
 use Rattle.region.specs.Limits.{writes_limit}
-use Rattle.region.specs.Answer.{if_done}
-use Rattle.region.specs.declared.Answer.{Answer}
-use Rattle.region.specs.declared.Answer.TheVariants.{Done}
+use Rattle.region.specs.Answer.{if_done, Answer, done, Counted}
 use Rattle.region.proofs.AnswerLaws.{changed}
 use Rattle.pieces.specs.AsyncSpec.{Write, AsyncView, len, write}
 use Rattle.cuts.proofs.Lengths.{length_flush, length_flush_selective}
@@ -20,12 +18,10 @@ use Rattle.desk.proofs.Views.{sized_of_appended, sound_after_recorded, sound_aft
 use Rattle.writelog.specs.Write.{write_number, Writes}
 use Rattle.writelog.specs.Flush.{flush_number, Flushes}
 use Rattle.writelog.specs.Cut.{cut_number, Cuts}
-use Rattle.writelog.specs.declared.cut.CutAnswer.{CutAnswer}
 use Rattle.writelog.proofs.WriteLaws.{write_sound}
 use Rattle.gate.specs.Opening.{Opens}
-use Rattle.gate.specs.Judgement.{judge_number, Gates}
-use Rattle.gate.specs.declared.Verdict.{Verdict}
-use Rattle.gate.specs.declared.Verdict.TheVariants.{Admitted, Denied, Refused}
+use Rattle.gate.specs.Judgement.{judge_number, Gates, Judged}
+use Rattle.gate.specs.declared.Verdict.TheVariants.{Admitted, Denied}
 use Rattle.gate.proofs.Meaning.{gate_means}
 use Rattle.gate.proofs.JudgementLaws.{number_0_fits}
 use Rattle.gate.proofs.Gives.{opened_holds, gate_refused_left}
@@ -39,7 +35,8 @@ use Rattle.tape.specs.Cut.{tape_cut_number, TapeCuts}
 use Rattle.tape.proofs.NumberLaws.{tape_write_done}
 use Rattle.example.specs.Setup.{setup_number, SetsUp}
 use Rattle.example.specs.Run.{run_number, if_any_round, Runs}
-use Rattle.rounds.specs.declared.RunAnswer.{RunAnswer}
+use Rattle.rounds.specs.Answer.{RunAnswer}
+use Rattle.std.specs.Prelude.{Err, Ok}
 
 -- refusal 1 doesn't apply, and the state has its 32 records
 pub record Accepted (d : Desk) : Type 0 where
@@ -77,29 +74,29 @@ module _ {d : Desk} (a : Accepted d) where
   pub accepted_after_flush : {answer : Answer} {d' : Desk} → Flushes d answer d' → Accepted d'
   accepted_after_flush p = either_way Accepted (flush_number d) p.leaves (λ none. settled _ (length_flush (view d))) a
 
-  pub accepted_after_cut : {table : List ℕ} {answer : CutAnswer} {d' : Desk} → Cuts d table answer d' → Accepted d'
+  pub accepted_after_cut : {table : List ℕ} {answer : Counted} {d' : Desk} → Cuts d table answer d' → Accepted d'
   accepted_after_cut {table} p =
       either_way Accepted (cut_number d table) p.leaves (λ none. settled _ (length_flush_selective (chunk_size d) (view d) _)) a
 
-  pub accepted_after_gate : {sheet work : List ℕ} {w : Write} {answer : Verdict} {d' : Desk} {work' : List ℕ}
+  pub accepted_after_gate : {sheet work : List ℕ} {w : Write} {answer : Judged} {d' : Desk} {work' : List ℕ}
       → Gates d sheet work w answer d' work' → Accepted d'
   accepted_after_gate {sheet} {work} {w} p =
       either_way Accepted (judge_number d sheet work w) p.leaves
       (λ none. let f = (number_0_fits d sheet work w none).0 in recorded w (record { lies = f.lies; few = f.few_writes; fits = f.few_bytes })) a
 
 -- a good opening makes one of any state
-pub accepted_after_opening : {d : Desk} {sheet : List ℕ} {d' : Desk} → Opens d sheet Done d' → Accepted d'
+pub accepted_after_opening : {d : Desk} {sheet : List ℕ} {d' : Desk} → Opens d sheet done d' → Accepted d'
 accepted_after_opening p = let held = opened_holds p refl in record { sized = held.sized; good = facts_sound _ _ _ held.facts }
 
 -- the working image keeps the image's length, whatever the verdict
-pub work_fits_after_gate : {d : Desk} {sheet work : List ℕ} {w : Write} {answer : Verdict} {d' : Desk} {work' : List ℕ} → length work ≡ length d.image
+pub work_fits_after_gate : {d : Desk} {sheet work : List ℕ} {w : Write} {answer : Judged} {d' : Desk} {work' : List ℕ} → length work ≡ length d.image
     → Gates d sheet work w answer d' work' → length work' ≡ length d.image
 work_fits_after_gate {d} {w = w} {answer} {work' = work'} same g = go answer refl
   where
-    go : (a : Verdict) → answer ≡ a → length work' ≡ length d.image
-    go (Admitted n) e = ap length ((gate_means g).admitted_leaves n e).1 ∙ length_flush (write (view d) w)
-    go (Denied m) e = ap length ((gate_means g).denied_leaves m e) ∙ length_flush_selective (chunk_size d) (write (view d) w) _
-    go (Refused why) e = ap length (gate_refused_left g e).1 ∙ same
+    go : (a : Judged) → answer ≡ a → length work' ≡ length d.image
+    go (Ok (Admitted n)) e = ap length ((gate_means g).admitted_leaves n e).1 ∙ length_flush (write (view d) w)
+    go (Ok (Denied m)) e = ap length ((gate_means g).denied_leaves m e) ∙ length_flush_selective (chunk_size d) (write (view d) w) _
+    go (Err why) e = ap length (gate_refused_left g e).1 ∙ same
 
 -- the same of what a call by tape is lent
 abbrev pub MemoryAccepted : TapeDesk → Type 0
@@ -119,7 +116,7 @@ module _ {t : TapeDesk} {tape : List ℕ} where
     accepted_after_tape_flush p =
         either_way MemoryAccepted (tape_flush_number t tape) p.leaves (λ none. settled a _ (length_flush (view t.memory))) a
 
-    pub accepted_after_tape_cut : {answer : CutAnswer} {t' : TapeDesk} → TapeCuts t tape answer t' → MemoryAccepted t'
+    pub accepted_after_tape_cut : {answer : Counted} {t' : TapeDesk} → TapeCuts t tape answer t' → MemoryAccepted t'
     accepted_after_tape_cut p =
         either_way MemoryAccepted (tape_cut_number t tape) p.leaves
         (λ none. settled a _ (predicted_length (chunk_size t.memory) tape t.start (view t.memory))) a
@@ -133,11 +130,11 @@ module _ {t : TapeDesk} {tape : List ℕ} where
     pub predicted_fits_after_tape_flush : {answer : Answer} {t' : TapeDesk} → TapeFlushes t tape answer t' → PredictedFits t'
     predicted_fits_after_tape_flush p = either_way PredictedFits (tape_flush_number t tape) p.leaves (λ none. refl) same
 
-    pub predicted_fits_after_tape_cut : {answer : CutAnswer} {t' : TapeDesk} → TapeCuts t tape answer t' → PredictedFits t'
+    pub predicted_fits_after_tape_cut : {answer : Counted} {t' : TapeDesk} → TapeCuts t tape answer t' → PredictedFits t'
     predicted_fits_after_tape_cut p = either_way PredictedFits (tape_cut_number t tape) p.leaves (λ none. refl) same
 
   -- `inv` of the prophecy: after a done write by tape the epoch has a row for every write of the log, whole and rightly filled
-  pub rows_there_after_tape_write : {w : Write} {t' : TapeDesk} → TapeWrites t tape w Done t'
+  pub rows_there_after_tape_write : {w : Write} {t' : TapeDesk} → TapeWrites t tape w done t'
       → Epoch (chunks t.memory) t'.memory.state.count tape t.start
   rows_there_after_tape_write p =
       let none = sym p.answers in

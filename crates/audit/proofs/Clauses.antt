@@ -11,9 +11,6 @@ use borrow.Author.Tests.{leb-true}
 use Rattle.region.specs.Limits.{writes_limit}
 use Rattle.region.specs.Pmemspec.{extract_bytes}
 use Rattle.region.specs.View.{PersistentMemoryRegionView}
-use Rattle.region.specs.declared.Answer.{Answer}
-use Rattle.region.specs.declared.Answer.TheVariants.{Done}
-use Rattle.region.specs.declared.Answer.TheVariants as answer
 use Rattle.region.proofs.AnswerLaws.{refusal_not_done, changed, left, passed}
 use Rattle.region.proofs.Booleans.{both}
 use Rattle.pieces.specs.AsyncSpec.{Write, no_write, AsyncView, len, WritesValid, Within, write, flush, readable, CanCrashAs, CanCrash}
@@ -36,7 +33,6 @@ use Rattle.desk.proofs.Views.{writes_counted, view_of_recorded, view_of_settled}
 use Rattle.writelog.specs.Write.{write_number, Writes}
 use Rattle.writelog.specs.Flush.{Flushes}
 use Rattle.writelog.specs.Cut.{desk_rows, cut_number, Cuts}
-use Rattle.writelog.specs.declared.cut.CutAnswer.TheVariants.{Kept}
 use Rattle.gate.specs.Opening.{Opens}
 use Rattle.gate.proofs.Gives.{opened_fresh}
 use Rattle.gate.proofs.JudgementLaws.{same_number}
@@ -47,6 +43,8 @@ use Rattle.tape.specs.Memory.{TapeDesk}
 use Rattle.tape.specs.Flush.{TapeFlushes}
 use Rattle.tape.proofs.NumberLaws.{ending_done}
 use Rattle.tape.proofs.Steps.{step_of_flush}
+use Rattle.region.specs.Answer.{Answer, done}
+use Rattle.std.specs.Prelude.{Err, Ok}
 
 -- what a tape foretells of a desk: the original's view
 abbrev pub foretold_on : (tape : List ℕ) → TapeDesk → PersistentMemoryRegionView
@@ -82,7 +80,7 @@ sound_is_valid d e = inside_valid (length d.image) (log_records d.state) d.log (
 module _ (d : Desk) (sized : length d.state.records ≡ writes_limit) where
   -- `crash` of pmem_async_equiv_t.rs, which promises nothing: the image that a done cut leaves is one that the original's `can_crash_as` allows, with
   -- the rows that were handed in
-  pub cut_leaves_a_crash : (table : List ℕ) {k : ℕ} {d' : Desk} → Cuts d table (Kept k) d'
+  pub cut_leaves_a_crash : (table : List ℕ) {k : ℕ} {d' : Desk} → Cuts d table (Ok k) d'
       → CanCrashAs (chunk_size d) (view d) d'.image (desk_rows d table 0)
   unfolding cut_number
   cut_leaves_a_crash table p =
@@ -120,13 +118,13 @@ done_flush_keeps_the_view d p rows rows' flushed =
 -- The one by tape, whatever it answers: what the tape foretells of the desk afterwards is what it foretold before.
 pub tape_flush_keeps_the_view : (t : TapeDesk) (tape : List ℕ) (a : Answer) {t' : TapeDesk} → length t.memory.state.records ≡ writes_limit
     → TapeFlushes t tape a t' → foretold_on tape t' ≡ foretold_on tape t
-tape_flush_keeps_the_view t tape answer.Done {t'} sized p =
+tape_flush_keeps_the_view t tape done {t'} sized p =
     let none = sym p.answers in
     let rows : List (List Bool) = epoch_rows (chunks t.memory) (length (view t.memory).outstanding_writes) tape t.start in
     ap (λ (v : AsyncView). foretold (chunk_size t.memory) tape t'.start v) (step_of_flush sized p none).flushed
     ∙ flush_keeps_the_view (chunk_size t.memory) (view t.memory) rows _ (flush_foretold tape t'.start)
     ∙ ap (λ (b : Bool). prophecy (chunk_size t.memory) b (view t.memory) rows) (sym (ending_done true t tape none).foretold)
-tape_flush_keeps_the_view t tape (answer.Refused why) sized p = ap (foretold_on tape) (left _ p.leaves (refusal_not_done why) (sym p.answers))
+tape_flush_keeps_the_view t tape (Err why) sized p = ap (foretold_on tape) (left _ p.leaves (refusal_not_done why) (sym p.answers))
 
 -- the comment on `flush` in power_v.rs: what a cut could leave after a flush, it could have left before
 pub flush_narrows : (C : ℕ) → 0 < C → (v : AsyncView) (x : List ℕ) → CanCrash C (flush v) x → CanCrash C v x

@@ -7,7 +7,6 @@ use native.Mathlib.Omega.{arith}
 use mathlib.Core.Path.{◌≡◌, refl, sym, ap, ap₂, subst⁻¹, ◌∙◌}
 use mathlib.Core.List.{List, []}
 use lib.ListN.{length}
-use Rattle.region.specs.declared.Answer.TheVariants as answer
 use Rattle.region.proofs.AnswerLaws.{done_changed, changed}
 use Rattle.bits.specs.Bits.{byte_bits}
 use Rattle.pieces.specs.AsyncSpec.{AsyncView}
@@ -24,7 +23,6 @@ use Rattle.rounds.specs.Valid.{app_valid, app_sheet}
 use Rattle.example.specs.Run.{run_number, Runs}
 use Rattle.rounds.specs.Steps.{Under, Goes}
 use Rattle.example.specs.Run.{Repeats}
-use Rattle.rounds.specs.declared.RunAnswer.TheVariants.{Done}
 use Rattle.example.proofs.NumberLaws.{Fit, run_0_fits, opening_decides}
 use Rattle.rounds.proofs.SheetLaws.{app_sheet_formed, sheet_says_valid}
 use Rattle.rounds.proofs.StepLaws.{once_admissible, once, twice_admissible, twice, both_written, logged_both, pair_goes, first_value, second_value}
@@ -40,6 +38,7 @@ use Rattle.linked.specs.Calls.{Calls}
 use Rattle.linked.proofs.Runs.{linked_session}
 use Rattle.linked.proofs.Linking.{run_is_calls}
 pub use Rattle.audit.proofs.Round.{pair_of, round_of}
+use Rattle.region.specs.Answer.{done}
 
 -- the history of the rounds
 pub rounds_of : (addr val0 val1 rounds : ℕ) → History
@@ -57,7 +56,7 @@ module _ (sheet opened_image : List ℕ) where
   record Went (h : History) (d : Desk) (addr first second : ℕ) : Type 0 where
     now : Desk
     work_now : List ℕ
-    goes : Goes d addr first second Done now work_now
+    goes : Goes d addr first second done now work_now
     run : Run sheet opened_image h now
 
   module _ {d : Desk} {work : List ℕ} {addr a b : ℕ} (u : Under d sheet work addr a b) {h : History} (r : Run sheet opened_image h d) where
@@ -69,7 +68,7 @@ module _ (sheet opened_image : List ℕ) where
         let fits₂ = twice_admissible u there₁ in
         let g₂ = admitting fits₂.0 fits₂.1 in
         let f = flushes_done (facts_sound _ _ _ (logged_both u).facts) refl in
-        let both = both_written u (twice u there₁ g₂) {told = Done} refl in
+        let both = both_written u (twice u there₁ g₂) {told = done} refl in
         record { now = _; work_now = _; goes = pair_goes u both (record { answers = f.answers; leaves = f.leaves }); run = r and gate g₁ and gate g₂ and flush f }
 
   round_goes_on : {d : Desk} {work : List ℕ} {addr a b : ℕ} → Under d sheet work addr a b → {h : History} → Run sheet opened_image h d
@@ -83,7 +82,7 @@ module _ (sheet opened_image : List ℕ) where
   record Gone (d : Desk) (work : List ℕ) (addr val0 val1 rounds : ℕ) : Type 0 where
     now : Desk
     work_now : List ℕ
-    repeats : Repeats d.image d.log work addr val0 val1 rounds Done now.image now.log work_now
+    repeats : Repeats d.image d.log work addr val0 val1 rounds done now.image now.log work_now
     under : Under now sheet work_now addr val0 val1
     run : Run sheet opened_image (rounds_of addr val0 val1 rounds) now
 
@@ -103,7 +102,7 @@ module _ (sheet opened_image : List ℕ) where
       }
 
 module _ (image log work : List ℕ) (addr val0 val1 rounds : ℕ) (byte0 : val0 < 2 ^ byte_bits) (byte1 : val1 < 2 ^ byte_bits)
-    {image' log' work' : List ℕ} (p : Runs image log work addr val0 val1 rounds Done image' log' work') where
+    {image' log' work' : List ℕ} (p : Runs image log work addr val0 val1 rounds done image' log' work') where
   abbrev sheet : List ℕ
   sheet = app_sheet addr val0 val1
 
@@ -119,7 +118,7 @@ module _ (image log work : List ℕ) (addr val0 val1 rounds : ℕ) (byte0 : val0
   says : (before after : List ℕ) → obeys sheet before after ≡ app_valid addr val0 val1 after
   says = sheet_says_valid addr val0 val1 (omega (arith, fit.lies, fit.short)) byte0 byte1
 
-  opens : Opens first sheet answer.Done first
+  opens : Opens first sheet done first
   opens =
       let formed = app_sheet_formed addr val0 val1 (omega (arith, fit.lies, fit.short)) byte0 byte1 in
       let decides = opening_decides first sheet work addr val0 val1 rounds fit formed says ∙ none in

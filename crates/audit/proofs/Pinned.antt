@@ -5,26 +5,19 @@ use native.Mathlib.Omega.{arith}
 use mathlib.Core.Path.{◌≡◌, refl, sym, ap}
 use mathlib.Core.List.{List}
 use denote.Ref.{MutBor}
-use Rattle.region.specs.Answer.{Report, answer_number}
-use Rattle.region.specs.declared.Answer.{Answer}
+use Rattle.region.specs.Answer.{Report, answer_number, Answer, Counted, counted_report}
 use Rattle.region.proofs.AnswerLaws.{answers_by_number, refusals_by_number}
 use Rattle.pieces.specs.AsyncSpec.{Write}
 use Rattle.sheet.specs.Sheet.{judged_number}
 use Rattle.sheet.specs.declared.Judged.{Judged}
 use Rattle.sheet.specs.declared.Judged.TheVariants.{Malformed, Obeys, Breaks}
-use Rattle.desk.specs.State.{outstanding_report}
 use Rattle.desk.specs.Desk.{Desk}
-use Rattle.desk.specs.declared.state.Outstanding.{Outstanding}
-use Rattle.desk.specs.declared.state.Outstanding.TheVariants.{Bytes, Unsound}
 use Rattle.writelog.specs.Write.{Writes}
 use Rattle.writelog.specs.Read.{Fills, HandsBack}
 use Rattle.writelog.specs.Flush.{Flushes}
-use Rattle.writelog.specs.Cut.{Cuts, cut_report}
-use Rattle.writelog.specs.declared.cut.CutAnswer.{CutAnswer}
-use Rattle.writelog.specs.declared.cut.CutAnswer.TheVariants.{Kept, Refused}
+use Rattle.writelog.specs.Cut.{Cuts}
 use Rattle.gate.specs.Opening.{Opens}
-use Rattle.gate.specs.Judgement.{verdict_report, Judges, Gates}
-use Rattle.gate.specs.declared.Verdict.{Verdict}
+use Rattle.gate.specs.Judgement.{verdict_report, Judges, Gates, Judged}
 use Rattle.gate.proofs.JudgementLaws.{same_number, same_values, nothing_reported, one_value}
 use Rattle.gate.proofs.Meaning.{verdicts_by_report}
 use Rattle.tape.specs.Memory.{TapeDesk}
@@ -32,18 +25,19 @@ use Rattle.tape.specs.Write.{TapeWrites}
 use Rattle.tape.specs.Flush.{TapeFlushes}
 use Rattle.tape.specs.Cut.{TapeCuts}
 use Rattle.example.specs.Setup.{SetsUp}
-use Rattle.rounds.specs.Answer.{run_answer_number}
+use Rattle.rounds.specs.Answer.{run_answer_number, RunAnswer}
 use Rattle.example.specs.Run.{Runs}
-use Rattle.rounds.specs.declared.RunAnswer.{RunAnswer}
 use Rattle.rounds.proofs.AnswerNumbers.{run_answers_by_number}
 use Rattle.audit.proofs.Pinning.{Pinned, same, pin}
+use Rattle.std.specs.Prelude.{Ok, Err, Result}
+use Rattle.region.specs.declared.Refusal.TheVariants.{BadState}
 
 -- a cut's report settles its answer
-cuts_by_report : (a b : CutAnswer) → cut_report a ≡ cut_report b → a ≡ b
-cuts_by_report (Kept k) (Kept j) e = ap Kept (one_value (same_values e))
-cuts_by_report (Kept k) (Refused why) e = absurd (nothing_reported (sym (same_values e)))
-cuts_by_report (Refused why) (Kept k) e = absurd (nothing_reported (same_values e))
-cuts_by_report (Refused a) (Refused b) e = ap Refused (refusals_by_number a b (same_number e))
+cuts_by_report : (a b : Counted) → counted_report a ≡ counted_report b → a ≡ b
+cuts_by_report (Ok k) (Ok j) e = ap Kept (one_value (same_values e))
+cuts_by_report (Ok k) (Err why) e = absurd (nothing_reported (sym (same_values e)))
+cuts_by_report (Err why) (Ok k) e = absurd (nothing_reported (same_values e))
+cuts_by_report (Err a) (Err b) e = ap Refused (refusals_by_number a b (same_number e))
 
 -- any call whose promise is its number alone
 pub number_pinned : {n : ℕ} (a b : Answer) → answer_number a ≡ n → answer_number b ≡ n → a ≡ b
@@ -65,13 +59,13 @@ pub sheet_pinned : {n : ℕ} (a b : Judged) → judged_number a ≡ n → judged
 sheet_pinned a b p q = judged_by_number a b (same p q)
 
 -- and what a state is checked to be, by its report
-outstanding_by_report : (a b : Outstanding) → outstanding_report a ≡ outstanding_report b → a ≡ b
-outstanding_by_report (Bytes m) (Bytes n) e = ap Bytes (one_value (same_values e))
-outstanding_by_report (Bytes m) Unsound e = absurd (nothing_reported (sym (same_values e)))
-outstanding_by_report Unsound (Bytes n) e = absurd (nothing_reported (same_values e))
-outstanding_by_report Unsound Unsound e = refl
+outstanding_by_report : (a b : Counted) → counted_report a ≡ counted_report b → a ≡ b
+outstanding_by_report (Ok m) (Ok n) e = ap Bytes (one_value (same_values e))
+outstanding_by_report (Ok m) (Err BadState) e = absurd (nothing_reported (sym (same_values e)))
+outstanding_by_report (Err BadState) (Ok n) e = absurd (nothing_reported (same_values e))
+outstanding_by_report (Err BadState) (Err BadState) e = refl
 
-pub check_pinned : {r : Report} (a b : Outstanding) → outstanding_report a ≡ r → outstanding_report b ≡ r → a ≡ b
+pub check_pinned : {r : Report} (a b : Counted) → counted_report a ≡ r → counted_report b ≡ r → a ≡ b
 check_pinned a b p q = outstanding_by_report a b (same p q)
 
 module _ (d : Desk) where
@@ -90,7 +84,7 @@ module _ (d : Desk) where
   flush_pinned = pin answer_number answers_by_number (λ a l p. p.answers) (λ a l p. p.leaves)
 
   pub cut_pinned : (table : List ℕ) → Pinned (Cuts d table)
-  cut_pinned table = pin cut_report cuts_by_report (λ a l p. p.answers) (λ a l p. p.leaves)
+  cut_pinned table = pin counted_report cuts_by_report (λ a l p. p.answers) (λ a l p. p.leaves)
 
   pub open_pinned : (sheet : List ℕ) → Pinned (Opens d sheet)
   open_pinned sheet = pin answer_number answers_by_number (λ a l p. p.answers) (λ a l p. p.leaves)
@@ -100,7 +94,7 @@ module _ (d : Desk) where
     judge_pinned = pin verdict_report verdicts_by_report (λ a l p. p.answers) (λ a l p. p.fills)
 
     -- what is left are the desk and the working image
-    pub gate_pinned : Pinned (λ (v : Verdict) (l : Desk × List ℕ). Gates d sheet work w v l.0 l.1)
+    pub gate_pinned : Pinned (λ (v : Judged) (l : Desk × List ℕ). Gates d sheet work w v l.0 l.1)
     gate_pinned = pin verdict_report verdicts_by_report (λ a l p. p.judges.answers) (λ a l p i. (p.leaves i, p.judges.fills i))
 
 module _ (t : TapeDesk) (tape : List ℕ) where
@@ -111,7 +105,7 @@ module _ (t : TapeDesk) (tape : List ℕ) where
   tape_flush_pinned = pin answer_number answers_by_number (λ a l p. p.answers) (λ a l p. p.leaves)
 
   pub tape_cut_pinned : Pinned (TapeCuts t tape)
-  tape_cut_pinned = pin cut_report cuts_by_report (λ a l p. p.answers) (λ a l p. p.leaves)
+  tape_cut_pinned = pin counted_report cuts_by_report (λ a l p. p.answers) (λ a l p. p.leaves)
 
 pub setup_pinned : (image : List ℕ) (addr val0 : ℕ) → Pinned (SetsUp image addr val0)
 setup_pinned image addr val0 = pin answer_number answers_by_number (λ a l p. p.answers) (λ a l p. p.image_after)

@@ -7,7 +7,6 @@ use mathlib.Core.Path.{◌≡◌, refl, sym, ap, ◌∙◌}
 use mathlib.Core.Bool.{false, false≢true}
 use mathlib.Core.List.{List, [], ◌∷◌}
 use lib.ListN.{get_or, replicate, set}
-use Rattle.region.specs.declared.Answer.TheVariants.{Done, Refused}
 use Rattle.region.specs.declared.Refusal.TheVariants.{BadState, BrokenImage}
 use Rattle.pieces.specs.AsyncSpec.{Write, write_of, flush_selective}
 use Rattle.cuts.proofs.Shape.{shaped_rows_crash}
@@ -19,7 +18,6 @@ use Rattle.desk.specs.declared.state.State.{State}
 use Rattle.writelog.specs.Write.{Writes}
 use Rattle.writelog.specs.Flush.{Flushes}
 use Rattle.writelog.specs.Cut.{Cuts}
-use Rattle.writelog.specs.declared.cut.CutAnswer.TheVariants.{Kept}
 use Rattle.gate.specs.Opening.{Opens}
 use Rattle.gate.specs.Judgement.{Judges, Gates}
 use Rattle.gate.specs.declared.Verdict.TheVariants.{Admitted, Denied}
@@ -29,6 +27,8 @@ use Rattle.session.specs.Theorem.{Session}
 use Rattle.session.proofs.Theorem.{session}
 use Rattle.session.proofs.Computing.{everything}
 use Rattle.worked.proofs.Calls.{zeros, eight_is_nine, any_state, any_log, twice, log_with, one_write, found, idle, logged, the_opening, the_admitted_write}
+use Rattle.std.specs.Prelude.{Ok, Err}
+use Rattle.region.specs.Answer.{done}
 
 -- the image that a cut by a table leaves
 abbrev left_by : Desk → (table : List ℕ) → List ℕ
@@ -59,8 +59,8 @@ desk_a = desk zeros (appended fresh (record_of a)) (set any_log 0 0xAA)
 
 -- "Open an image that obeys the sheet": byte 8 isn't byte 9, the opening says so, and a flush all the same leaves what was there. No run begins so.
 pub broken_from_the_start :
-    Opens (broken_desk fresh) eight_is_nine (Refused BrokenImage) (broken_desk fresh)
-    × Flushes (broken_desk fresh) Done (broken_desk (emptied fresh))
+    Opens (broken_desk fresh) eight_is_nine (Err BrokenImage) (broken_desk fresh)
+    × Flushes (broken_desk fresh) done (broken_desk (emptied fresh))
     × (Session eight_is_nine (set zeros 8 0xAA) (opening then flushed) (broken_desk (emptied fresh)) → ⊥)
 unfolding everything
 broken_from_the_start = (record { answers = refl; leaves = refl }, record { answers = refl; leaves = refl }, no_session [] refl)
@@ -68,7 +68,7 @@ broken_from_the_start = (record { answers = refl; leaves = refl }, record { answ
 -- "record a write only when the gate has admitted it": a plain write that nobody judged
 pub unjudged_write :
     Run eight_is_nine zeros opening (idle zeros)
-    × Writes (idle zeros) a Done desk_a
+    × Writes (idle zeros) a done desk_a
     × (Session eight_is_nine zeros (opening then written a) desk_a → ⊥)
 unfolding everything
 unjudged_write = (begun, record { answers = refl; leaves = refl }, no_session (0x40 ∷ []) refl)
@@ -86,26 +86,26 @@ desk_one image = desk image (appended fresh (record_of (one_at 0))) (set any_log
 abbrev desk_two : Desk
 desk_two = desk zeros (appended (appended fresh (record_of (one_at 0))) (record_of (one_at 8))) (set (set any_log 0 0x01) 1 0x01)
 
-opened_either : Opens (found zeros) either_zero Done (idle zeros)
+opened_either : Opens (found zeros) either_zero done (idle zeros)
 unfolding everything
 opened_either = record { answers = refl; leaves = refl }
 
-verdict_at_0 : Judges (idle zeros) either_zero zeros (one_at 0) (Admitted 1) (set zeros 0 0x01)
+verdict_at_0 : Judges (idle zeros) either_zero zeros (one_at 0) (Ok (Admitted 1)) (set zeros 0 0x01)
 unfolding everything
 verdict_at_0 = record { answers = refl; fills = refl }
 
-verdict_at_8 : Judges (idle zeros) either_zero zeros (one_at 8) (Admitted 1) (set zeros 8 0x01)
+verdict_at_8 : Judges (idle zeros) either_zero zeros (one_at 8) (Ok (Admitted 1)) (set zeros 8 0x01)
 unfolding everything
 verdict_at_8 = record { answers = refl; fills = refl }
 
-first_write : Writes (idle zeros) (one_at 0) Done (desk_one zeros)
+first_write : Writes (idle zeros) (one_at 0) done (desk_one zeros)
 unfolding everything
 first_write = record { answers = refl; leaves = refl }
 
 pub stale_verdict :
     Run either_zero zeros (opening then nothing then written (one_at 0)) (desk_one zeros)
-    × Judges (idle zeros) either_zero zeros (one_at 8) (Admitted 1) (set zeros 8 0x01)
-    × Writes (desk_one zeros) (one_at 8) Done desk_two
+    × Judges (idle zeros) either_zero zeros (one_at 8) (Ok (Admitted 1)) (set zeros 8 0x01)
+    × Writes (desk_one zeros) (one_at 8) done desk_two
     × (Session either_zero zeros (opening then nothing then written (one_at 0) then written (one_at 8)) desk_two → ⊥)
 unfolding everything
 stale_verdict = (
@@ -116,7 +116,7 @@ stale_verdict = (
 )
 
 -- a verdict in the state with the first write denies the second, and names choice 3
-pub fresh_verdict : Judges (desk_one zeros) either_zero zeros (one_at 8) (Denied 3) (set (set zeros 0 0x01) 8 0x01)
+pub fresh_verdict : Judges (desk_one zeros) either_zero zeros (one_at 8) (Ok (Denied 3)) (set (set zeros 0 0x01) 8 0x01)
 unfolding everything
 fresh_verdict = record { answers = refl; fills = refl }
 
@@ -126,8 +126,8 @@ always = 0x18 ∷ 0x00 ∷ []
 
 pub other_sheet :
     Run eight_is_nine zeros opening (idle zeros)
-    × Opens (idle zeros) always Done (idle zeros)
-    × Gates (idle zeros) always zeros a (Admitted 1) desk_a (set zeros 8 0xAA)
+    × Opens (idle zeros) always done (idle zeros)
+    × Gates (idle zeros) always zeros a (Ok (Admitted 1)) desk_a (set zeros 8 0xAA)
     × (Session eight_is_nine zeros (opening then reopened then written a) desk_a → ⊥)
 unfolding everything
 other_sheet = (
@@ -140,7 +140,7 @@ other_sheet = (
 -- "let nothing else touch the memory": one byte of the image changed from outside, and the next opening refuses it;
 pub touched_image :
     Run eight_is_nine zeros opening (idle zeros)
-    × Opens (broken_desk any_state) eight_is_nine (Refused BrokenImage) (broken_desk any_state)
+    × Opens (broken_desk any_state) eight_is_nine (Err BrokenImage) (broken_desk any_state)
     × (Session eight_is_nine zeros opening (broken_desk fresh) → ⊥)
 unfolding everything
 touched_image = (begun, record { answers = refl; leaves = refl }, no_session [] refl)
@@ -154,8 +154,8 @@ half_settled = set (set zeros 8 0xBB) 9 0xAA
 
 pub touched_log :
     Run eight_is_nine zeros (opening then written (twice 0xAA)) (logged zeros 0xAA)
-    × Flushes (desk zeros one_write touched_bytes) Done (desk half_settled (emptied one_write) touched_bytes)
-    × Opens (found half_settled) eight_is_nine (Refused BrokenImage) (found half_settled)
+    × Flushes (desk zeros one_write touched_bytes) done (desk half_settled (emptied one_write) touched_bytes)
+    × Opens (found half_settled) eight_is_nine (Err BrokenImage) (found half_settled)
     × (Session eight_is_nine zeros (opening then written (twice 0xAA)) (desk zeros one_write touched_bytes) → ⊥)
 unfolding everything
 touched_log = (begun_with_aa, record { answers = refl; leaves = refl }, record { answers = refl; leaves = refl }, no_session (0x40 ∷ []) refl)
@@ -169,8 +169,8 @@ wrongly_settled = set (set zeros 9 0xAA) 10 0xAA
 
 pub touched_record :
     Run eight_is_nine zeros (opening then written (twice 0xAA)) (logged zeros 0xAA)
-    × Flushes (desk zeros one_byte_on (log_with 0xAA)) Done (desk wrongly_settled (emptied one_byte_on) (log_with 0xAA))
-    × Opens (found wrongly_settled) eight_is_nine (Refused BrokenImage) (found wrongly_settled)
+    × Flushes (desk zeros one_byte_on (log_with 0xAA)) done (desk wrongly_settled (emptied one_byte_on) (log_with 0xAA))
+    × Opens (found wrongly_settled) eight_is_nine (Err BrokenImage) (found wrongly_settled)
     × (Session eight_is_nine zeros (opening then written (twice 0xAA)) (desk zeros one_byte_on (log_with 0xAA)) → ⊥)
 unfolding everything
 touched_record = (begun_with_aa, record { answers = refl; leaves = refl }, record { answers = refl; leaves = refl }, no_session (0x40 ∷ []) refl)
@@ -183,15 +183,15 @@ eight_zeros = replicate 8 0
 abbrev lost_desk : Desk
 lost_desk = desk (set eight_zeros 0 0x01) any_state any_log
 
-opened_short : Opens (found eight_zeros) either_zero Done (idle eight_zeros)
+opened_short : Opens (found eight_zeros) either_zero done (idle eight_zeros)
 unfolding everything
 opened_short = record { answers = refl; leaves = refl }
 
 pub other_length :
     Run either_zero eight_zeros opening (idle eight_zeros)
-    × Gates (idle zeros) either_zero zeros (one_at 0) (Admitted 1) (desk_one zeros) (set zeros 0 0x01)
-    × Cuts (desk_one eight_zeros) (0x80 ∷ []) (Kept 1) (desk (set eight_zeros 0 0x01) (emptied (desk_one eight_zeros).state) (set any_log 0 0x01))
-    × Opens lost_desk either_zero (Refused BrokenImage) lost_desk
+    × Gates (idle zeros) either_zero zeros (one_at 0) (Ok (Admitted 1)) (desk_one zeros) (set zeros 0 0x01)
+    × Cuts (desk_one eight_zeros) (0x80 ∷ []) (Ok 1) (desk (set eight_zeros 0 0x01) (emptied (desk_one eight_zeros).state) (set any_log 0 0x01))
+    × Opens lost_desk either_zero (Err BrokenImage) lost_desk
     × (Session either_zero eight_zeros (opening then written (one_at 0)) (desk_one eight_zeros) → ⊥)
 unfolding everything
 other_length = (
@@ -208,7 +208,7 @@ forgetful_desk st = desk zeros st (log_with 0xAA)
 
 pub old_state :
     Run eight_is_nine zeros (opening then written (twice 0xAA)) (logged zeros 0xAA)
-    × Flushes (forgetful_desk fresh) Done (forgetful_desk (emptied fresh))
+    × Flushes (forgetful_desk fresh) done (forgetful_desk (emptied fresh))
     × (Session eight_is_nine zeros (opening then written (twice 0xAA) then flushed) (forgetful_desk (emptied fresh)) → ⊥)
 unfolding everything
 old_state = (
@@ -224,6 +224,6 @@ short_desk = desk zeros fresh (replicate 1023 0xEE)
 pub short_log :
     Run eight_is_nine zeros opening (idle zeros)
     × Session eight_is_nine zeros opening (idle zeros)
-    × Opens short_desk eight_is_nine (Refused BadState) short_desk
+    × Opens short_desk eight_is_nine (Err BadState) short_desk
 unfolding everything
 short_log = (begun, session eight_is_nine zeros begun, record { answers = refl; leaves = refl })

@@ -6,13 +6,11 @@ use native.Mathlib.Omega.{arith}
 use mathlib.Core.Path.{◌≡◌, refl, ap}
 use mathlib.Core.List.{List, [], ◌∷◌}
 use lib.ListN.{length, get_or, set}
-use Rattle.region.specs.declared.Answer.TheVariants.{Done}
 use Rattle.pieces.specs.AsyncSpec.{Write, write_of}
 use Rattle.desk.specs.State.{record_of, appended, emptied, fresh}
 use Rattle.desk.specs.Desk.{Desk, desk, chunk_size}
 use Rattle.writelog.specs.Flush.{Flushes}
 use Rattle.writelog.specs.Cut.{Cuts}
-use Rattle.writelog.specs.declared.cut.CutAnswer.TheVariants.{Kept}
 use Rattle.gate.specs.Opening.{Opens}
 use Rattle.gate.specs.Judgement.{Judges, Gates}
 use Rattle.gate.specs.declared.Verdict.TheVariants.{Admitted}
@@ -25,6 +23,8 @@ use Rattle.session.specs.TapeTheorem.{TapeSession, prediction}
 use Rattle.session.proofs.Computing.{everything}
 use Rattle.audit.proofs.Sharp.{no_session}
 use Rattle.worked.proofs.Calls.{zeros, eight_is_nine, any_log, twice, image_with, log_with, one_write, found, idle, logged, written_down}
+use Rattle.std.specs.Prelude.{Ok}
+use Rattle.region.specs.Answer.{done}
 
 abbrev image_aa : List ℕ
 image_aa = image_with 0xAA
@@ -42,19 +42,19 @@ tape = 0x00 ∷ 0x40 ∷ 0x00 ∷ 0x00 ∷ []
 abbrev other_tape : List ℕ
 other_tape = 0x00 ∷ 0x00 ∷ []
 
-opens : Opens (found image_aa) eight_is_nine Done (idle image_aa)
+opens : Opens (found image_aa) eight_is_nine done (idle image_aa)
 unfolding everything
 opens = record { answers = refl; leaves = refl }
 
-judges_cc : Judges (idle image_aa) eight_is_nine zeros (twice 0xCC) (Admitted 1) image_cc
+judges_cc : Judges (idle image_aa) eight_is_nine zeros (twice 0xCC) (Ok (Admitted 1)) image_cc
 unfolding everything
 judges_cc = record { answers = refl; fills = refl }
 
-writes_cc : TapeWrites (by_tape (idle image_aa) 0 zeros) tape (twice 0xCC) Done (by_tape (logged image_aa 0xCC) 0 image_cc)
+writes_cc : TapeWrites (by_tape (idle image_aa) 0 zeros) tape (twice 0xCC) done (by_tape (logged image_aa 0xCC) 0 image_cc)
 unfolding everything
 writes_cc = record { answers = refl; leaves = refl }
 
-cuts_cc : TapeCuts (by_tape (logged image_aa 0xCC) 0 image_cc) tape (Kept 1) (by_tape (written_down image_cc 0xCC) 2 image_cc)
+cuts_cc : TapeCuts (by_tape (logged image_aa 0xCC) 0 image_cc) tape (Ok 1) (by_tape (written_down image_cc 0xCC) 2 image_cc)
 unfolding everything
 cuts_cc = record { answers = refl; leaves = refl }
 
@@ -89,8 +89,8 @@ table_of reopened = []
 -- the start 0 it is predicted by the row of the epoch before, which keeps it.
 pub old_start :
     TapeRun eight_is_nine tape image_aa (with_cc then cut_by tape 1) (written_down image_cc 0xCC) 2 (image_cc ∷ image_cc ∷ [])
-    × Judges (written_down image_cc 0xCC) eight_is_nine zeros (twice 0xDD) (Admitted 1) image_dd
-    × TapeWrites (by_tape (written_down image_cc 0xCC) 0 image_cc) tape (twice 0xDD) Done (by_tape (logged image_cc 0xDD) 0 image_dd)
+    × Judges (written_down image_cc 0xCC) eight_is_nine zeros (twice 0xDD) (Ok (Admitted 1)) image_dd
+    × TapeWrites (by_tape (written_down image_cc 0xCC) 0 image_cc) tape (twice 0xDD) done (by_tape (logged image_cc 0xDD) 0 image_dd)
     × (TapeSession eight_is_nine tape image_aa (with_cc then cut_by tape 1 then written (twice 0xDD)) (logged image_cc 0xDD) 0 (image_dd ∷ image_cc ∷ image_cc ∷ []) → ⊥)
 unfolding everything
 old_start = (
@@ -103,8 +103,8 @@ old_start = (
 -- "0 at first": the epoch that starts at 2 keeps nothing, where the tape's first keeps the write
 pub later_start :
     TapeRun eight_is_nine tape image_aa opening (idle image_aa) 0 []
-    × Judges (idle image_aa) eight_is_nine zeros (twice 0xCC) (Admitted 1) image_cc
-    × TapeWrites (by_tape (idle image_aa) 2 zeros) tape (twice 0xCC) Done (by_tape (logged image_aa 0xCC) 2 image_aa)
+    × Judges (idle image_aa) eight_is_nine zeros (twice 0xCC) (Ok (Admitted 1)) image_cc
+    × TapeWrites (by_tape (idle image_aa) 2 zeros) tape (twice 0xCC) done (by_tape (logged image_aa 0xCC) 2 image_aa)
     × (TapeSession eight_is_nine tape image_aa with_cc (logged image_aa 0xCC) 2 (image_aa ∷ []) → ⊥)
 unfolding everything
 later_start = (
@@ -117,7 +117,7 @@ later_start = (
 -- "a tape of cut choices fixed beforehand": the write is predicted by one tape, and cut by another that keeps nothing, so that the image predicted is not found
 pub changed_tape :
     TapeRun eight_is_nine tape image_aa with_cc (logged image_aa 0xCC) 0 (image_cc ∷ [])
-    × TapeCuts (by_tape (logged image_aa 0xCC) 0 image_cc) other_tape (Kept 0) (by_tape (written_down image_aa 0xCC) 2 image_aa)
+    × TapeCuts (by_tape (logged image_aa 0xCC) 0 image_cc) other_tape (Ok 0) (by_tape (written_down image_aa 0xCC) 2 image_aa)
     × (image_aa ≡ prediction (chunk_size (logged image_aa 0xCC)) image_aa tape with_cc → ⊥)
     × NoneByTape tape image_aa (with_cc then cut_by other_tape 1) (written_down image_aa 0xCC)
 unfolding everything
@@ -136,13 +136,13 @@ tape_of_two = 0x00 ∷ 0x40 ∷ 0x40 ∷ []
 abbrev desk_of_two : Desk
 desk_of_two = desk image_aa (appended one_write (record_of (twice 0xDD))) (set (set (log_with 0xCC) 2 0xDD) 3 0xDD)
 
-writes_cc_of_two : TapeWrites (by_tape (idle image_aa) 0 zeros) tape_of_two (twice 0xCC) Done (by_tape (logged image_aa 0xCC) 0 image_cc)
+writes_cc_of_two : TapeWrites (by_tape (idle image_aa) 0 zeros) tape_of_two (twice 0xCC) done (by_tape (logged image_aa 0xCC) 0 image_cc)
 unfolding everything
 writes_cc_of_two = record { answers = refl; leaves = refl }
 
 pub write_past_the_tape :
     TapeRun eight_is_nine tape_of_two image_aa with_cc (logged image_aa 0xCC) 0 (image_cc ∷ [])
-    × Gates (logged image_aa 0xCC) eight_is_nine zeros (twice 0xDD) (Admitted 2) desk_of_two image_dd
+    × Gates (logged image_aa 0xCC) eight_is_nine zeros (twice 0xDD) (Ok (Admitted 2)) desk_of_two image_dd
     × (TapeSession eight_is_nine tape_of_two image_aa (with_cc then written (twice 0xDD)) desk_of_two 0 (image_cc ∷ []) → ⊥)
 unfolding everything
 write_past_the_tape = (
@@ -152,13 +152,13 @@ write_past_the_tape = (
 )
 
 -- a flush where the tape says that a cut will come and keep nothing: the image predicted is not found,
-writes_cc_in_vain : TapeWrites (by_tape (idle image_aa) 0 zeros) other_tape (twice 0xCC) Done (by_tape (logged image_aa 0xCC) 0 image_aa)
+writes_cc_in_vain : TapeWrites (by_tape (idle image_aa) 0 zeros) other_tape (twice 0xCC) done (by_tape (logged image_aa 0xCC) 0 image_aa)
 unfolding everything
 writes_cc_in_vain = record { answers = refl; leaves = refl }
 
 pub flush_past_the_tape :
     TapeRun eight_is_nine other_tape image_aa with_cc (logged image_aa 0xCC) 0 (image_aa ∷ [])
-    × Flushes (logged image_aa 0xCC) Done (written_down image_cc 0xCC)
+    × Flushes (logged image_aa 0xCC) done (written_down image_cc 0xCC)
     × (image_cc ≡ prediction (chunk_size (logged image_aa 0xCC)) image_aa other_tape with_cc → ⊥)
     × NoneByTape other_tape image_aa (with_cc then flushed) (written_down image_cc 0xCC)
 unfolding everything
@@ -172,7 +172,7 @@ flush_past_the_tape = (
 -- and a cut by rows of its own, which keeps nothing
 pub cut_past_the_tape :
     TapeRun eight_is_nine tape image_aa with_cc (logged image_aa 0xCC) 0 (image_cc ∷ [])
-    × Cuts (logged image_aa 0xCC) (0x00 ∷ []) (Kept 0) (written_down image_aa 0xCC)
+    × Cuts (logged image_aa 0xCC) (0x00 ∷ []) (Ok 0) (written_down image_aa 0xCC)
     × (image_aa ≡ prediction (chunk_size (logged image_aa 0xCC)) image_aa tape with_cc → ⊥)
     × NoneByTape tape image_aa (with_cc then cut_by (0x00 ∷ []) 0) (written_down image_aa 0xCC)
 unfolding everything
@@ -192,7 +192,7 @@ desk_of_half = desk image_aa (appended fresh (record_of half)) (set any_log 0 0x
 
 pub unjudged_tape_write :
     TapeRun eight_is_nine tape image_aa opening (idle image_aa) 0 []
-    × TapeWrites (by_tape (idle image_aa) 0 zeros) tape half Done (by_tape desk_of_half 0 (set image_aa 8 0xCC))
+    × TapeWrites (by_tape (idle image_aa) 0 zeros) tape half done (by_tape desk_of_half 0 (set image_aa 8 0xCC))
     × NoneByTape tape image_aa (opening then written half) desk_of_half
 unfolding everything
 unjudged_tape_write = (begun tape, record { answers = refl; leaves = refl }, λ start shown s. no_session (0x40 ∷ []) refl s.session)
@@ -204,8 +204,8 @@ emptied_desk = desk image_aa fresh (log_with 0xCC)
 
 pub reopened_with_a_write :
     TapeRun eight_is_nine tape image_aa with_cc (logged image_aa 0xCC) 0 (image_cc ∷ [])
-    × Opens (logged image_aa 0xCC) eight_is_nine Done emptied_desk
-    × TapeCuts (by_tape emptied_desk 0 image_cc) tape (Kept 0) (by_tape (desk image_aa (emptied fresh) (log_with 0xCC)) 1 image_aa)
+    × Opens (logged image_aa 0xCC) eight_is_nine done emptied_desk
+    × TapeCuts (by_tape emptied_desk 0 image_cc) tape (Ok 0) (by_tape (desk image_aa (emptied fresh) (log_with 0xCC)) 1 image_aa)
     × (image_aa ≡ prediction (chunk_size (logged image_aa 0xCC)) image_aa tape with_cc → ⊥)
     × NoneByTape tape image_aa (with_cc then reopened) emptied_desk
 unfolding everything
@@ -220,7 +220,7 @@ reopened_with_a_write = (
 -- and so does one after a power loss that goes on over the image at the last flush
 pub restarted_with_a_write :
     TapeRun eight_is_nine tape image_aa with_cc (logged image_aa 0xCC) 0 (image_cc ∷ [])
-    × Opens (found image_aa) eight_is_nine Done (idle image_aa)
+    × Opens (found image_aa) eight_is_nine done (idle image_aa)
     × NoneByTape tape image_aa (with_cc then reopened) (idle image_aa)
 unfolding everything
 restarted_with_a_write = (begun_with_cc, opens, λ start shown s. suc-ne-zero 0 s.choices_are_the_tapes.1)

@@ -3,27 +3,23 @@
 use Prim.Native.Nat.{ℕ, zero, suc, ◌+◌}
 use mathlib.Core.Path.{◌≡◌, refl, ap, subst, ◌∙◌}
 use mathlib.Core.List.{List}
-use Rattle.region.specs.Answer.{Report, answer_number, if_done}
-use Rattle.region.specs.declared.Answer.{Answer}
+use Rattle.region.specs.Answer.{Report, answer_number, if_done, Answer, Counted, counted_report}
 use Rattle.pieces.specs.AsyncSpec.{Write, readable}
 use Rattle.desk.specs.Desk.{Desk, desk, view}
 use Rattle.desk.specs.declared.state.State.{State}
 use Rattle.writelog.specs.Write.{Writes}
 use Rattle.writelog.specs.Read.{read_number, Fills}
 use Rattle.writelog.specs.Flush.{Flushes}
-use Rattle.writelog.specs.Cut.{cut_report, cut_told, cut_number, kept_by_rows, Cuts}
-use Rattle.writelog.specs.declared.cut.CutAnswer.{CutAnswer}
+use Rattle.writelog.specs.Cut.{cut_told, cut_number, kept_by_rows, Cuts}
 use Rattle.gate.specs.Opening.{Opens}
-use Rattle.gate.specs.Judgement.{verdict_report, judge_report, judge_number, judge_work, Judges, Gates}
-use Rattle.gate.specs.declared.Verdict.{Verdict}
+use Rattle.gate.specs.Judgement.{verdict_report, judge_report, judge_number, judge_work, Judges, Gates, Judged}
 use Rattle.tape.specs.Memory.{TapeDesk, by_tape}
 use Rattle.tape.specs.Write.{TapeWrites}
 use Rattle.tape.specs.Flush.{TapeFlushes}
 use Rattle.tape.specs.Cut.{tape_cut_number, TapeCuts}
 use Rattle.example.specs.Setup.{SetsUp}
-use Rattle.rounds.specs.Answer.{run_answer_number}
+use Rattle.rounds.specs.Answer.{run_answer_number, RunAnswer}
 use Rattle.example.specs.Run.{Runs}
-use Rattle.rounds.specs.declared.RunAnswer.{RunAnswer}
 use Rattle.boundary.specs.Words.{state_of, words_of, reported}
 use Rattle.boundary.specs.Lent.{Lent, lent, desk_of, TapeLent, lent_by_tape, Crossing, plainly, on_tape, at_desk}
 use Rattle.boundary.specs.Log.{SkaldriftWrite, SkaldriftRead, SkaldriftFlush, SkaldriftCut}
@@ -54,11 +50,11 @@ report_by zero kept held = refl
 report_by (suc why) kept held = refl
 
 module _ {M D : Type 0} (X : Crossing M D) (m : M) (sized : StateSized X m) (number_of kept_of : D → ℕ) where
-  reports_kept : (answer : CutAnswer) (held : ℕ) {d : D} {report : ℕ} → d ≡ X.inward m → cut_report answer ≡ cut_told (kept_of d) (number_of d)
-      → report ≡ reported (cut_report answer) held → report ≡ if_done (at_desk X m 1 number_of) (kept_of (X.inward m)) held
+  reports_kept : (answer : Counted) (held : ℕ) {d : D} {report : ℕ} → d ≡ X.inward m → counted_report answer ≡ cut_told (kept_of d) (number_of d)
+      → report ≡ reported (counted_report answer) held → report ≡ if_done (at_desk X m 1 number_of) (kept_of (X.inward m)) held
   reports_kept answer held loaded answers reports =
       let here = X.inward m in
-      let answers_here = subst (λ (e : D). cut_report answer ≡ cut_told (kept_of e) (number_of e)) loaded answers in
+      let answers_here = subst (λ (e : D). counted_report answer ≡ cut_told (kept_of e) (number_of e)) loaded answers in
       reports ∙ ap (λ (r : Report). reported r held) answers_here ∙ report_by (number_of here) (kept_of here) held
       ∙ called_by X m sized number_of (kept_of here) held
 
@@ -105,7 +101,7 @@ module _ {m : Lent} (sized : StateSized plainly m) {st : State} (loaded : st ≡
         fills = here.fills ∙ called_by plainly m sized number_of (readable (view (desk_of m))) work;
       }
 
-  module _ {sheet work work' : List ℕ} {w : Write} {held report number : ℕ} {verdict : Verdict}
+  module _ {sheet work work' : List ℕ} {w : Write} {held report number : ℕ} {verdict : Judged}
       (told : number ≡ (verdict_report verdict).number) (reports : report ≡ reported (verdict_report verdict) held) where
     pub judge_right : Judges (desk_with m st) sheet work w verdict work' → SkaldriftJudge m sheet work w held number work' report
     judge_right call =
@@ -139,7 +135,7 @@ module _ {m : Lent} (sized : StateSized plainly m) {st : State} (loaded : st ≡
       pub open_right : {sheet : List ℕ} → Opens (desk_with m st) sheet answer (desk_with m' st') → SkaldriftOpen m sheet number m'
       open_right call = record { does = right plain_laws sized (ap (desk_with m) loaded) (told ∙ call.answers) call.leaves (ap (lent_with m') stored) }
 
-    pub cut_right : {rows : List ℕ} {answer : CutAnswer} {held report : ℕ} → number ≡ (cut_report answer).number → report ≡ reported (cut_report answer) held
+    pub cut_right : {rows : List ℕ} {answer : Counted} {held report : ℕ} → number ≡ (counted_report answer).number → report ≡ reported (counted_report answer) held
         → Cuts (desk_with m st) rows answer (desk_with m' st') → SkaldriftCut m rows held number m' report
     cut_right {rows} {answer} {held} told reports call =
         let there = ap (desk_with m) loaded in
@@ -158,7 +154,7 @@ module _ {t t' : TapeLent} {tape : List ℕ} {number : ℕ} (sized : StateSized 
     pub tape_flush_right : TapeFlushes (tape_desk_with t st) tape answer (tape_desk_with t' st') → SkaldriftTapeFlush t tape number t'
     tape_flush_right call = record { does = right tape_laws sized (ap (tape_desk_with t) loaded) (told ∙ call.answers) call.leaves (ap (tape_lent_with t') stored) }
 
-  pub tape_cut_right : {answer : CutAnswer} {held report : ℕ} → number ≡ (cut_report answer).number → report ≡ reported (cut_report answer) held
+  pub tape_cut_right : {answer : Counted} {held report : ℕ} → number ≡ (counted_report answer).number → report ≡ reported (counted_report answer) held
       → TapeCuts (tape_desk_with t st) tape answer (tape_desk_with t' st') → SkaldriftTapeCut t tape held number t' report
   tape_cut_right {answer} {held} told reports call =
       let there = ap (tape_desk_with t) loaded in

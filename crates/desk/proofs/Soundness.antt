@@ -7,14 +7,14 @@ use mathlib.Core.List.{[], ◌∷◌}
 use lib.ListN.{length, get_or}
 use borrow.Author.Tests.{le-leb, leb-true, eq-eqb, eqb-true}
 use Rattle.region.specs.Limits.{image_limit, writes_limit, log_limit}
-use Rattle.region.specs.Answer.{Report}
+use Rattle.region.specs.Answer.{Report, Counted, counted_report}
 use Rattle.region.proofs.Booleans.{cond_when, cond_unless, both, both_true}
-use Rattle.desk.specs.State.{log_records, together, records_inside, sound_for, check_report, outstanding_report}
+use Rattle.desk.specs.State.{log_records, together, records_inside, sound_for, check_report}
 use Rattle.desk.specs.Desk.{Desk}
 use Rattle.records.specs.declared.Record.{Record}
 use Rattle.desk.specs.declared.state.State.{State}
-use Rattle.desk.specs.declared.state.Outstanding.{Outstanding}
-use Rattle.desk.specs.declared.state.Outstanding.TheVariants.{Bytes, Unsound}
+use Rattle.std.specs.Prelude.{Ok, Err, Result}
+use Rattle.region.specs.declared.Refusal.TheVariants.{BadState}
 
 pub record SoundFor (L : ℕ) (st : State) (log_length : ℕ) : Type 0 where
   pub short : L ≤ image_limit
@@ -76,20 +76,20 @@ module _ (L : ℕ) (st : State) (log_length : ℕ) where
   pub check_unsound : sound_for L st log_length ≡ false → check_report L st log_length ≡ record { number = 1; values = [] }
   check_unsound = cond_unless (sound_for L st log_length) _ _
 
-  module _ {r : Outstanding} (told : outstanding_report r ≡ check_report L st log_length) where
-    pub told_bytes : {used : ℕ} → r ≡ Bytes used → Told used
+  module _ {r : Counted} (told : counted_report r ≡ check_report L st log_length) where
+    pub told_bytes : {used : ℕ} → r ≡ Ok used → Told used
     told_bytes {used} is = go (sound_for L st log_length) refl
       where
         here : record { number = 0; values = used ∷ [] } ≡ check_report L st log_length
-        here = sym (ap outstanding_report is) ∙ told
+        here = sym (ap counted_report is) ∙ told
 
         go : (t : Bool) → sound_for L st log_length ≡ t → Told used
         go true s = record { good = s; facts = sound_facts s; counted = ap (λ (x : Report). get_or x.values 0 0) (here ∙ check_sound s) }
         go false s = absurd (omega (arith, ap (λ (x : Report). x.number) (here ∙ check_unsound s)))
 
-    pub told_unsound : r ≡ Unsound → sound_for L st log_length ≡ false
+    pub told_unsound : r ≡ (Err BadState) → sound_for L st log_length ≡ false
     told_unsound is = go (sound_for L st log_length) refl
       where
         go : (t : Bool) → sound_for L st log_length ≡ t → sound_for L st log_length ≡ false
-        go true s = absurd (omega (arith, ap (λ (x : Report). x.number) (sym (ap outstanding_report is) ∙ told ∙ check_sound s)))
+        go true s = absurd (omega (arith, ap (λ (x : Report). x.number) (sym (ap counted_report is) ∙ told ∙ check_sound s)))
         go false s = s

@@ -6,8 +6,6 @@ use Rattle.pieces.specs.AsyncSpec.{Write}
 pub use Rattle.records.specs.Record.{no_record}
 use Rattle.records.specs.declared.Record.{Record}
 use Rattle.desk.specs.declared.state.State.{State}
-use Rattle.desk.specs.declared.state.Outstanding.{Outstanding}
-use Rattle.desk.specs.declared.state.Outstanding.TheVariants.{Bytes, Unsound}
 
 -- the records of the log are those below the count: old records past it are nobody's business
 abbrev pub log_records : State → List Record
@@ -43,10 +41,6 @@ abbrev pub check_report : (L : ℕ) → State → (log_length : ℕ) → Report
 check_report L st log_length =
     unless (sound_for L st log_length) (record { number = 1; values = [] })
     (record { number = 0; values = together (log_records st) ∷ [] })
-
-abbrev pub outstanding_report : Outstanding → Report
-outstanding_report (Bytes used) = record { number = 0; values = used ∷ [] }
-outstanding_report Unsound = record { number = 1; values = [] }
 
 -- the record of a write
 abbrev pub record_of : Write → Record

@@ -9,24 +9,24 @@ ghost use Rattle.desk.specs.State.{log_records, together, record_of, room_number
 use crate::state::{State, with_record, within};
 use pieces::lay::lay;
 use records::Record;
-use region::{Answer, LOG_LIMIT, Refusal, WRITES_LIMIT};
+use region::{LOG_LIMIT, Refusal, WRITES_LIMIT};
 
 // Is there room for a write with this record where `used` bytes are outstanding? Document 01's 2, 3
 // and 4.
-pub fn room(size: usize, state: State, used: usize, r: Record) -> Answer
+pub fn room(size: usize, state: State, used: usize, r: Record) -> Result<(), Refusal>
     requires { (used ≡ together (log_records state)) × (used ≤ log_limit) }
     ensures { answer_number result ≡ room_number size state r }
 {
     if !within(r.addr, r.len, size) {
-        return Answer::Refused(Refusal::OutOfRange);
+        return Err(Refusal::OutOfRange);
     }
     if WRITES_LIMIT <= state.count {
-        return Answer::Refused(Refusal::TooManyWrites);
+        return Err(Refusal::TooManyWrites);
     }
     if LOG_LIMIT - used < r.len {
-        return Answer::Refused(Refusal::TooManyBytes);
+        return Err(Refusal::TooManyBytes);
     }
-    Answer::Done
+    Ok(())
 }
 
 // The write's own step: its bytes go behind the `used` outstanding ones, its record to index count.

@@ -2,24 +2,18 @@
 // Their bytes lie in the log buffer, packed oldest first, so that where a record's bytes begin is the
 // sum of the lengths before it.
 ghost use Rattle.std.specs.Prelude.{◌≡◌, ◌+◌, ◌<◌, leb, length, get_or};
+ghost use Rattle.region.specs.Answer.{counted_report};
 ghost use Rattle.region.specs.Limits.{writes_limit};
-ghost use Rattle.desk.specs.State.{check_report, outstanding_report, no_record, with_record, emptied, fresh};
+ghost use Rattle.desk.specs.State.{check_report, no_record, with_record, emptied, fresh};
 
 use records::Record;
 use records::record_list::{record_in, records_with};
-use region::{IMAGE_LIMIT, LOG_LIMIT, WRITES_LIMIT};
+use region::{IMAGE_LIMIT, LOG_LIMIT, Refusal, WRITES_LIMIT};
 
 #[derive(Clone, Copy)]
 pub struct State {
     pub count: usize,
     pub records: [Record; WRITES_LIMIT],
-}
-
-// The outstanding bytes of a sound state, or that it is none: document 01's 1.
-#[derive(Clone, Copy)]
-pub enum Outstanding {
-    Bytes(usize),
-    Unsound,
 }
 
 // addr + len is at most size, in whole numbers.
@@ -33,33 +27,34 @@ pub fn within(addr: usize, len: usize, size: usize) -> bool
 }
 
 // Tests what every call is handed: the image's length, the state and the log buffer's length.
-pub fn checked(state: State, image: usize, log: usize) -> Outstanding
-    ensures { (outstanding_report result ≡ check_report image state log) × (length state.records ≡ writes_limit) }
+// Answers the outstanding bytes of a sound state, or document 01's 1.
+pub fn checked(state: State, image: usize, log: usize) -> Result<usize, Refusal>
+    ensures { (counted_report result ≡ check_report image state log) × (length state.records ≡ writes_limit) }
 {
     if IMAGE_LIMIT < image {
-        return Outstanding::Unsound;
+        return Err(Refusal::BadState);
     }
     if log != LOG_LIMIT {
-        return Outstanding::Unsound;
+        return Err(Refusal::BadState);
     }
     let count = state.count;
     if WRITES_LIMIT < count {
-        return Outstanding::Unsound;
+        return Err(Refusal::BadState);
     }
     let mut used = 0;
     let mut i = 0;
     while i < count {
         let r = state.records[i];
         if !within(r.addr, r.len, image) {
-            return Outstanding::Unsound;
+            return Err(Refusal::BadState);
         }
         if LOG_LIMIT - used < r.len {
-            return Outstanding::Unsound;
+            return Err(Refusal::BadState);
         }
         used += r.len;
         i += 1;
     }
-    Outstanding::Bytes(used)
+    Ok(used)
 }
 
 // The state with an empty log, its records all zero.

@@ -19,9 +19,9 @@ use Rattle.cuts.proofs.Gate.{last_trial_is_the_read_image}
 use Rattle.sheet.specs.Sheet.{obeys, allows}
 use Rattle.sheet.proofs.Laws.{before_unseen}
 use Rattle.desk.specs.Desk.{Desk, chunk_size, view}
-use Rattle.engine.specs.declared.search.Outcome.TheVariants.{AllGood, FirstBad}
 use Rattle.engine.specs.Search.{Ready, Searches, trial_image, sheet_finding, sheet_image}
 use Rattle.engine.proofs.PointLaws.{points_with_a_write}
+use Rattle.std.specs.Prelude.{None, Some}
 
 -- the numbers of few points fit a word
 pub numbers_exact : (n : ℕ) → n ≤ points_limit → 1 * 2 ^ n % 2 ^ 64 ≡ 2 ^ n
@@ -69,13 +69,13 @@ module _ {d : Desk} {sheet : List ℕ} {w : Write} {n : ℕ} where
                 ∙ sym (finding_goes_on (good d sheet w) m (2 ^ n - (m + 1)) (judged_so e)) ∙ one_off;
           }
 
-      pub found_bad : allows sheet work' ≡ false → Searches d w sheet (FirstBad m) work'
+      pub found_bad : allows sheet work' ≡ false → Searches d w sheet (Some m) work'
       found_bad e =
           let denied : first_bad m ≡ sheet_finding d w sheet = sym (finding_stops (good d sheet w) m (2 ^ n - (m + 1)) (judged_so e)) ∙ one_off in
           record { answers = denied; fills = here ∙ ap (sheet_image d w) denied }
 
     -- all numbers tried: the last one left the read image
-    pub found_none : choice_points (chunk_size d) (write (view d) w) ≡ n → 2 ^ n ≤ m → Searches d w sheet AllGood work
+    pub found_none : choice_points (chunk_size d) (write (view d) w) ≡ n → 2 ^ n ≤ m → Searches d w sheet None work
     found_none counted h =
         let some = pow_pos n in
         let all : m ≡ 2 ^ n = omega (arith, t.within) in

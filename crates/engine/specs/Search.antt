@@ -1,6 +1,6 @@
 -- What an engine is asked, and what it promises: the finding over all choice numbers, and the image that it leaves. A quicker engine has the same
 -- promise.
-use Rattle.std.specs.Prelude.{ℕ, ◌+◌, ◌≤◌, ◌≡◌, true, List, length}
+use Rattle.std.specs.Prelude.{ℕ, ◌+◌, ◌≤◌, ◌≡◌, true, List, length, Option, None, Some}
 use Rattle.region.specs.Limits.{writes_limit, points_limit}
 use Rattle.pieces.specs.AsyncSpec.{Write, write}
 use Rattle.pieces.specs.Choice.{touched}
@@ -11,8 +11,6 @@ use Rattle.sheet.specs.Sheet.{obeys}
 use Rattle.desk.specs.State.{log_records}
 use Rattle.desk.specs.Desk.{Desk, chunk_size, view, sound}
 use Rattle.engine.specs.Count.{record_points}
-use Rattle.engine.specs.declared.search.Outcome.{Outcome}
-use Rattle.engine.specs.declared.search.Outcome.TheVariants.{AllGood, FirstBad}
 
 -- a sound desk, a working image of the image's length, a write inside it, and few enough points with the write in the log
 pub record Ready (d : Desk) (work_length : ℕ) (w : Write) (points : ℕ) : Type 0 where
@@ -24,9 +22,9 @@ pub record Ready (d : Desk) (work_length : ℕ) (w : Write) (points : ℕ) : Typ
   pub few : points ≤ points_limit
 
 -- the finding that an answer of the search is
-abbrev pub searched : Outcome → Finding
-searched AllGood = none_bad
-searched (FirstBad m) = first_bad m
+abbrev pub searched : Option ℕ → Finding
+searched None = none_bad
+searched (Some m) = first_bad m
 
 module _ (d : Desk) (w : Write) where
   -- the image that choice number m leaves, with the write in the log
@@ -41,6 +39,6 @@ module _ (d : Desk) (w : Write) where
   abbrev pub sheet_image : Finding → List ℕ
   sheet_image r = gate_image (chunk_size d) (view d) w r
 
-  pub record Searches (sheet : List ℕ) (answer : Outcome) (work' : List ℕ) : Type 0 where
+  pub record Searches (sheet : List ℕ) (answer : Option ℕ) (work' : List ℕ) : Type 0 where
     pub answers : searched answer ≡ sheet_finding sheet
     pub fills : work' ≡ sheet_image (sheet_finding sheet)

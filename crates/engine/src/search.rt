@@ -10,12 +10,6 @@ use desk::state::State;
 use sheet::{Judged, judge};
 use walks::words::record_words;
 
-#[derive(Clone, Copy)]
-pub enum Outcome {
-    AllGood,
-    FirstBad(usize),
-}
-
 // A sheet that is malformed nothing obeys.
 fn obeyed(sheet: &[u8], image: &[u8]) -> bool
     ensures { result ≡ allows sheet.now image.now }
@@ -28,7 +22,7 @@ fn obeyed(sheet: &[u8], image: &[u8]) -> bool
 }
 
 // Tries all numbers from 0 to 2^points - 1. What it leaves in `work` is its last trial: the first
-// bad image, or the read image, which the last number leaves.
+// bad image, or the read image, which the last number leaves. Answers the first bad number.
 #[inline(always)]
 pub fn search(
     state: State,
@@ -39,7 +33,7 @@ pub fn search(
     addr: usize,
     bytes: &[u8],
     points: usize,
-) -> Outcome
+) -> Option<usize>
     requires { Ready (desk image.now state log.now) (length work.old) (write_of addr bytes.now) points }
     ensures { Searches (desk image.now state log.now)
         (write_of addr bytes.now) sheet.now result work.new }
@@ -60,9 +54,9 @@ pub fn search(
             m,
         );
         if !obeyed(sheet, work) {
-            return Outcome::FirstBad(m);
+            return Some(m);
         }
         m += 1;
     }
-    Outcome::AllGood
+    None
 }

@@ -7,7 +7,7 @@ ghost use Rattle.epochs.specs.Epoch.{flush_foretold, epoch_there, epoch_number};
 
 use pieces::rows::{row_bytes, rows_filled};
 use region::chunks::size_to_chunks;
-use region::{Answer, Refusal};
+use region::Refusal;
 
 // A flush will end the epoch.
 pub const FLUSH_HEADER: u8 = 0x80;
@@ -44,16 +44,16 @@ fn epoch_there(tape: &[u8], start: usize, n: usize, chunks: usize) -> bool
 // Are the first n rows of the epoch at `start` there, and filled? Document 01's 10 and 9: every row
 // is there before any filling is looked at.
 #[tactic(auto, using(crate::proofs::EpochLaws::no_epoch, crate::proofs::EpochLaws::badly_filled, crate::proofs::EpochLaws::epoch_good))]
-pub fn epoch(tape: &[u8], start: usize, n: usize, size: usize) -> Answer
+pub fn epoch(tape: &[u8], start: usize, n: usize, size: usize) -> Result<(), Refusal>
     requires { (n ≤ writes_limit) × (size ≤ image_limit) }
     ensures { answer_number result ≡ epoch_number (size_to_chunks const_persistence_chunk_size size) n tape.now start }
 {
     let chunks = size_to_chunks(size);
     if !epoch_there(tape, start, n, chunks) {
-        return Answer::Refused(Refusal::BadTape);
+        return Err(Refusal::BadTape);
     }
     if !rows_filled(tape, start + 1, n, chunks) {
-        return Answer::Refused(Refusal::BadRows);
+        return Err(Refusal::BadRows);
     }
-    Answer::Done
+    Ok(())
 }

@@ -9,10 +9,8 @@ use lib.Dec.{leb, eqb}
 use lib.ListN.{length, set}
 use borrow.Author.Tests.{le-leb, lt-leb, leb-true, eq-eqb, ne_eqb, eqb-true}
 use Rattle.region.specs.Limits.{image_limit, log_limit}
-use Rattle.region.specs.Answer.{unless, answer_number, refusal_number}
-use Rattle.region.specs.declared.Answer.{Answer}
+use Rattle.region.specs.Answer.{unless, answer_number, refusal_number, Answer, done}
 use Rattle.region.specs.declared.Refusal.{Refusal}
-use Rattle.region.specs.declared.Answer.TheVariants as answers
 use Rattle.region.proofs.AnswerLaws.{done_changed, refused_left, passed, go_on, stop, both_none}
 use Rattle.region.proofs.Booleans.{both, cond_when, cond_unless}
 use Rattle.sheet.specs.Sheet.{well_formed, obeys}
@@ -22,18 +20,18 @@ use Rattle.gate.proofs.OpeningLaws.{open_good, open_broken}
 use Rattle.gate.proofs.Gives.{opens_means, opened_fresh}
 use Rattle.rounds.specs.Valid.{app_valid}
 use Rattle.example.specs.Setup.{setup_number, SetsUp}
-use Rattle.rounds.specs.Answer.{run_answer_number}
+use Rattle.rounds.specs.Answer.{run_answer_number, RunAnswer}
 use Rattle.rounds.specs.Steps.{Under}
 use Rattle.example.specs.Run.{rounds_limit, fits_number, run_number, Runs, Repeats}
-use Rattle.rounds.specs.declared.RunAnswer.{RunAnswer}
-use Rattle.rounds.specs.declared.RunAnswer.TheVariants.{Refused}
+use Rattle.rounds.specs.declared.RunError.TheVariants.{Refused}
+use Rattle.std.specs.Prelude.{Err}
 
 -- setup
 module _ (image : List ℕ) (addr val0 : ℕ) where
-  pub sets_up_refused : (why : Refusal) → setup_number image addr ≡ refusal_number why → SetsUp image addr val0 (answers.Refused why) image
+  pub sets_up_refused : (why : Refusal) → setup_number image addr ≡ refusal_number why → SetsUp image addr val0 (Err why) image
   sets_up_refused why e = record { answers = sym e; image_after = refused_left why _ e }
 
-  pub sets_up_done : setup_number image addr ≡ 0 → {image' : List ℕ} → image' ≡ set image addr val0 → SetsUp image addr val0 answers.Done image'
+  pub sets_up_done : setup_number image addr ≡ 0 → {image' : List ℕ} → image' ≡ set image addr val0 → SetsUp image addr val0 done image'
   sets_up_done none e = record { answers = sym none; image_after = e ∙ done_changed _ none }
 
   pub setup_long : image_limit < length image → setup_number image addr ≡ 1
@@ -139,7 +137,7 @@ module _ (image log work : List ℕ) (addr val0 val1 rounds : ℕ) where
 -- the promise of a refused run and of a done one
 module _ {image log work : List ℕ} {addr val0 val1 rounds : ℕ} where
   pub runs_refused : (why : Refusal) → run_number image log work addr val0 val1 rounds ≡ refusal_number why
-      → Runs image log work addr val0 val1 rounds (Refused why) image log work
+      → Runs image log work addr val0 val1 rounds (Err (Refused why)) image log work
   runs_refused why e =
       record {
         answers = sym e;
@@ -172,17 +170,17 @@ module _ (d : Desk) (sheet work : List ℕ) (addr val0 val1 rounds : ℕ) (f : F
     answers_so : {a : Answer} → answer ≡ a → run_number d.image d.log work addr val0 val1 rounds ≡ answer_number a
     answers_so e = sym opening_decides ∙ sym o.answers ∙ ap answer_number e
 
-    pub opening_refused : {why : Refusal} → answer ≡ answers.Refused why
-        → Runs d.image d.log work addr val0 val1 rounds (Refused why) d.image d.log work
+    pub opening_refused : {why : Refusal} → answer ≡ Err why
+        → Runs d.image d.log work addr val0 val1 rounds (Err (Refused why)) d.image d.log work
     opening_refused {why} e = runs_refused why (answers_so e)
 
-    pub opening_good : answer ≡ answers.Done → Under d' sheet work addr val0 val1
+    pub opening_good : answer ≡ done → Under d' sheet work addr val0 val1
     opening_good e =
         let good = sym (says _ d.image) ∙ ((opens_means o).0 e).obeyed in
         rw (opened_fresh o e)
         (record { idle = record { sized = refl; empty = refl }; short = f.short; buffer = f.buffer; same = f.same; good = good; says = says })
 
-    pub run_goes : answer ≡ answers.Done → {done : RunAnswer} {image' log' work' : List ℕ}
+    pub run_goes : answer ≡ done → {done : RunAnswer} {image' log' work' : List ℕ}
         → Repeats d.image d.log work addr val0 val1 rounds done image' log' work'
         → Runs d.image d.log work addr val0 val1 rounds done image' log' work'
     run_goes e r = runs_done (answers_so e) r

@@ -7,19 +7,19 @@ use lib.ListN.{length, set, length-set}
 use lib.Seq.{set-set}
 use Rattle.desk.specs.Desk.{Desk}
 use Rattle.rounds.specs.Steps.{Goes}
-use Rattle.rounds.specs.declared.RunAnswer.{RunAnswer}
-use Rattle.rounds.specs.declared.RunAnswer.TheVariants.{Done}
 use Rattle.rounds.proofs.StepLaws.{pair_over_pair}
 use Rattle.example.specs.Run.{if_any_round, log_after_round, Repeats}
+use Rattle.rounds.specs.Answer.{RunAnswer}
+use Rattle.region.specs.Answer.{done}
 
 module _ {image log work : List ℕ} {addr val0 val1 : ℕ} where
-  pub repeats_none : Repeats image log work addr val0 val1 0 Done image log work
+  pub repeats_none : Repeats image log work addr val0 val1 0 done image log work
   repeats_none = record { answers = refl; image_after = refl; log_after = refl; work_after = refl }
 
   -- one more
-  pub repeats_more : {n : ℕ} {d₁ : Desk} {work₁ : List ℕ} → Repeats image log work addr val0 val1 n Done d₁.image d₁.log work₁
+  pub repeats_more : {n : ℕ} {d₁ : Desk} {work₁ : List ℕ} → Repeats image log work addr val0 val1 n done d₁.image d₁.log work₁
       → {answer : RunAnswer} {d' : Desk} {work' : List ℕ} → Goes d₁ addr val1 val0 answer d' work'
-      → Repeats image log work addr val0 val1 (n + 1) Done d'.image d'.log work'
+      → Repeats image log work addr val0 val1 (n + 1) done d'.image d'.log work'
   repeats_more {n} r g =
       let long = add-one n in
       let image_again = ap (λ (s : List ℕ). set s addr val0) r.image_after ∙ again n in

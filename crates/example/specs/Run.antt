@@ -3,11 +3,9 @@
 -- changes nothing. Its log buffer and working image end as those calls leave them." It meets 1, 2, 12 and 6.
 use Rattle.std.specs.Prelude.{ℕ, zero, suc, ◌+◌, ◌≡◌, ◌&&◌, List, leb, eqb, length, set}
 use Rattle.region.specs.Limits.{image_limit, log_limit}
-use Rattle.region.specs.Answer.{unless, if_done, or_else}
+use Rattle.region.specs.Answer.{unless, if_done, or_else, done}
 use Rattle.rounds.specs.Valid.{app_valid}
-use Rattle.rounds.specs.Answer.{run_answer_number}
-use Rattle.rounds.specs.declared.RunAnswer.{RunAnswer}
-use Rattle.rounds.specs.declared.RunAnswer.TheVariants.{Done}
+use Rattle.rounds.specs.Answer.{run_answer_number, RunAnswer}
 
 -- "12: example: more than 1000 rounds"
 abbrev pub rounds_limit : ℕ
@@ -46,7 +44,7 @@ module _ (image log work : List ℕ) (addr val0 val1 rounds : ℕ) where
 
 -- Inner: what the rounds leave
 pub record Repeats (image log work : List ℕ) (addr val0 val1 rounds : ℕ) (answer : RunAnswer) (image' log' work' : List ℕ) : Type 0 where
-  pub answers : answer ≡ Done
+  pub answers : answer ≡ done
   pub image_after : image' ≡ if_any_round rounds (set image addr val0) image
   pub log_after : log' ≡ if_any_round rounds (log_after_round log val0 val1) log
   pub work_after : work' ≡ if_any_round rounds (set image addr val0) work

@@ -2,8 +2,7 @@
 -- meets 1 and 2.
 use Rattle.std.specs.Prelude.{ℕ, ◌+◌, ◌≡◌, List, leb, length, set}
 use Rattle.region.specs.Limits.{image_limit}
-use Rattle.region.specs.Answer.{answer_number, unless, if_done}
-use Rattle.region.specs.declared.Answer.{Answer}
+use Rattle.region.specs.Answer.{answer_number, unless, if_done, Answer}
 
 unfoldable pub setup_number : List ℕ → ℕ → ℕ
 setup_number image addr =

@@ -10,31 +10,31 @@ ghost use Rattle.example.specs.Run.{fits_number, Runs, Repeats};
 use crate::ROUNDS_LIMIT;
 use desk::state::fresh;
 use gate::open::open;
-use region::{Answer, IMAGE_LIMIT, LOG_LIMIT, Refusal};
-use rounds::RunAnswer;
+use region::{IMAGE_LIMIT, LOG_LIMIT, Refusal};
+use rounds::RunError;
 use rounds::app_sheet::app_sheet;
 use rounds::round::pair;
 
 // What is asked before the image is judged: document 01's 1, 2 and 12.
-fn fits(image: usize, log: usize, work: usize, addr: usize, rounds: u64) -> Answer
+fn fits(image: usize, log: usize, work: usize, addr: usize, rounds: u64) -> Result<(), Refusal>
     ensures { answer_number result ≡ fits_number image log work addr rounds }
 {
     if IMAGE_LIMIT < image {
-        return Answer::Refused(Refusal::BadState);
+        return Err(Refusal::BadState);
     }
     if log != LOG_LIMIT {
-        return Answer::Refused(Refusal::BadState);
+        return Err(Refusal::BadState);
     }
     if work != image {
-        return Answer::Refused(Refusal::BadState);
+        return Err(Refusal::BadState);
     }
     if image <= addr {
-        return Answer::Refused(Refusal::OutOfRange);
+        return Err(Refusal::OutOfRange);
     }
     if ROUNDS_LIMIT < rounds {
-        return Answer::Refused(Refusal::TooManyRounds);
+        return Err(Refusal::TooManyRounds);
     }
-    Answer::Done
+    Ok(())
 }
 
 // The rounds, from a fresh state on: val0, val1, and back. Stops at the first refusal; none comes.
@@ -47,7 +47,7 @@ fn repeat(
     val0: u8,
     val1: u8,
     rounds: u64,
-) -> RunAnswer
+) -> Result<(), RunError>
     requires { Under (desk image.old fresh log.old) sheet.now work.old addr val0 val1 }
     ensures { Repeats image.old log.old work.old addr val0 val1 rounds
         result image.new log.new work.new }
@@ -57,23 +57,23 @@ fn repeat(
     while done < rounds {
         let there = pair(current, image, log, sheet, work, addr, val0, val1);
         let answer = there.answer;
-        let RunAnswer::Done = answer else {
+        let Ok(()) = answer else {
             return answer;
         };
         let back = pair(there.state, image, log, sheet, work, addr, val1, val0);
         let answer = back.answer;
-        let RunAnswer::Done = answer else {
+        let Ok(()) = answer else {
             return answer;
         };
         current = back.state;
         done += 1;
     }
-    RunAnswer::Done
+    Ok(())
 }
 
 // Opens the image under the sheet. The state is fresh before and after, done or refused, so nobody
 // carries it out.
-fn opening(image: &[u8], log: &[u8], sheet: &[u8]) -> Answer
+fn opening(image: &[u8], log: &[u8], sheet: &[u8]) -> Result<(), Refusal>
     ensures { Opens (desk image.now fresh log.now) sheet.now result
         (desk image.now fresh log.now) }
 {
@@ -91,18 +91,18 @@ pub fn run(
     val0: u8,
     val1: u8,
     rounds: u64,
-) -> RunAnswer
+) -> Result<(), RunError>
     ensures { Runs image.old log.old work.old addr val0 val1 rounds result
         image.new log.new work.new }
 {
     let asked = fits(image.len(), log.len(), work.len(), addr, rounds);
-    if let Answer::Refused(why) = asked {
-        return RunAnswer::Refused(why);
+    if let Err(why) = asked {
+        return Err(RunError::Refused(why));
     }
     let sheet = app_sheet(addr, val0, val1);
     let answer = opening(image, log, &sheet);
-    if let Answer::Refused(why) = answer {
-        return RunAnswer::Refused(why);
+    if let Err(why) = answer {
+        return Err(RunError::Refused(why));
     }
     repeat(image, log, &sheet, work, addr, val0, val1, rounds)
 }

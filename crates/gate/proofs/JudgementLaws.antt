@@ -22,14 +22,12 @@ use Rattle.pieces.specs.AsyncSpec.{Write}
 use Rattle.desk.specs.State.{record_of}
 use Rattle.desk.specs.Desk.{Desk, sound, room_for, with_write}
 use Rattle.desk.proofs.RoomLaws.{room_done, room_there}
-use Rattle.engine.specs.declared.search.Outcome.{Outcome}
-use Rattle.engine.specs.declared.search.Outcome.TheVariants.{AllGood, FirstBad}
 use Rattle.engine.specs.Search.{searched, sheet_finding, sheet_image, Searches}
-use Rattle.gate.specs.declared.Verdict.{Verdict}
-use Rattle.gate.specs.declared.Verdict.TheVariants.{Admitted, Denied, Refused}
+use Rattle.gate.specs.declared.Verdict.TheVariants.{Admitted, Denied}
 use Rattle.gate.specs.Meaning.{Fits}
-use Rattle.gate.specs.Judgement.{denied_number, verdict_report, finding_report, gate_points, judge_refusal, judge_report, judge_number}
+use Rattle.gate.specs.Judgement.{denied_number, verdict_report, finding_report, gate_points, judge_refusal, judge_report, judge_number, Judged}
 use Rattle.gate.specs.Judgement.{Judges, Gates, Fitting, Weighs}
+use Rattle.std.specs.Prelude.{Option, Err, Ok, None, Some}
 
 -- two reports that are the same
 pub same_number : {r s : Report} → r ≡ s → r.number ≡ s.number
@@ -72,7 +70,7 @@ no_value_refused zero n search.none_bad e = absurd (nothing_reported e)
 no_value_refused zero n (search.first_bad m) e = absurd (nothing_reported e)
 no_value_refused (suc why) n r e = omega arith
 
-pub refusal_reported : (why : Refusal) (r : Report) {k : ℕ} → k ≡ refusal_number why → verdict_report (Refused why) ≡ by_refusal k r
+pub refusal_reported : (why : Refusal) (r : Report) {k : ℕ} → k ≡ refusal_number why → verdict_report (Err why) ≡ by_refusal k r
 refusal_reported why r some = ap (λ (k : ℕ). record { number = k; values = [] }) (sym some) ∙ refused_left why r some
 
 -- the test of 7
@@ -94,43 +92,43 @@ module _ (d : Desk) (sheet work : List ℕ) (w : Write) where
 
 -- the promises, return by return
 module _ {d : Desk} {sheet work : List ℕ} {w : Write} where
-  judges_refused : (why : Refusal) → judge_refusal d sheet work w ≡ refusal_number why → Judges d sheet work w (Refused why) work
+  judges_refused : (why : Refusal) → judge_refusal d sheet work w ≡ refusal_number why → Judges d sheet work w (Err why) work
   judges_refused why e = record { answers = refusal_reported why _ e; fills = refused_left why _ e }
 
-  pub judges_tried : judge_refusal d sheet work w ≡ 0 → {r : search.Finding} {answer : Verdict} {work' : List ℕ} → r ≡ sheet_finding d w sheet
+  pub judges_tried : judge_refusal d sheet work w ≡ 0 → {r : search.Finding} {answer : Judged} {work' : List ℕ} → r ≡ sheet_finding d w sheet
       → verdict_report answer ≡ finding_report (gate_points d w) r → work' ≡ sheet_image d w (sheet_finding d w sheet) → Judges d sheet work w answer work'
   judges_tried none e a f = record { answers = a ∙ ap (finding_report (gate_points d w)) e ∙ done_changed _ none; fills = f ∙ done_changed work none }
 
-  pub judges_unsound : sound d ≡ false → Judges d sheet work w (Refused BadState) work
+  pub judges_unsound : sound d ≡ false → Judges d sheet work w (Err BadState) work
   unfolding judge_refusal
   judges_unsound e = judges_refused BadState (rw e)
 
-  pub judges_other_length : (length work ≡ length d.image → ⊥) → Judges d sheet work w (Refused BadState) work
+  pub judges_other_length : (length work ≡ length d.image → ⊥) → Judges d sheet work w (Err BadState) work
   unfolding judge_refusal
   judges_other_length n = judges_refused BadState (rw (ne_eqb (length work) (length d.image) n, and-false))
 
   module _ (good : sound d ≡ true) (same : length work ≡ length d.image) where
-    pub judges_malformed : well_formed sheet ≡ false → Judges d sheet work w (Refused BadSheet) work
+    pub judges_malformed : well_formed sheet ≡ false → Judges d sheet work w (Err BadSheet) work
     unfolding judge_refusal
     judges_malformed e = judges_refused BadSheet (rw (good, eq-eqb (length work) (length d.image) same, e))
 
-    pub judges_no_room : well_formed sheet ≡ true → (why : Refusal) → room_for d w ≡ refusal_number why → Judges d sheet work w (Refused why) work
+    pub judges_no_room : well_formed sheet ≡ true → (why : Refusal) → room_for d w ≡ refusal_number why → Judges d sheet work w (Err why) work
     judges_no_room formed why e = judges_refused why (from_room d sheet work w good same formed (stop why _ e))
 
   module _ (f : Fitting d (length work) w) where
-    pub weighs_many : points_limit < gate_points d w → Weighs d sheet work w (Refused TooManyPoints) work
+    pub weighs_many : points_limit < gate_points d w → Weighs d sheet work w (Err TooManyPoints) work
     weighs_many h = record { judges = λ formed room. judges_refused TooManyPoints (many_refused d sheet work w f.good f.same formed room h) }
 
-    module _ (few : gate_points d w ≤ points_limit) {outcome : Outcome} {work' : List ℕ} (s : Searches d w sheet outcome work') where
-      weighs_searched : (answer : Verdict) → verdict_report answer ≡ finding_report (gate_points d w) (searched outcome) → Weighs d sheet work w answer work'
+    module _ (few : gate_points d w ≤ points_limit) {outcome : Option ℕ} {work' : List ℕ} (s : Searches d w sheet outcome work') where
+      weighs_searched : (answer : Judged) → verdict_report answer ≡ finding_report (gate_points d w) (searched outcome) → Weighs d sheet work w answer work'
       weighs_searched answer e =
           record { judges = λ formed room. judges_tried (few_tried d sheet work w f.good f.same formed room few) s.answers e s.fills }
 
-      pub weighs_admitted : {n : ℕ} → outcome ≡ AllGood → n ≡ gate_points d w → Weighs d sheet work w (Admitted n) work'
-      weighs_admitted {n} o e = weighs_searched (Admitted n) (rw (o, e))
+      pub weighs_admitted : {n : ℕ} → outcome ≡ None → n ≡ gate_points d w → Weighs d sheet work w (Ok (Admitted n)) work'
+      weighs_admitted {n} o e = weighs_searched (Ok (Admitted n)) (rw (o, e))
 
-      pub weighs_denied : {m : ℕ} → outcome ≡ FirstBad m → Weighs d sheet work w (Denied m) work'
-      weighs_denied {m} o = weighs_searched (Denied m) (rw o)
+      pub weighs_denied : {m : ℕ} → outcome ≡ Some m → Weighs d sheet work w (Ok (Denied m)) work'
+      weighs_denied {m} o = weighs_searched (Ok (Denied m)) (rw o)
 
 pub fits_room : {d : Desk} {sheet work : List ℕ} {w : Write} → Fits d sheet work w → room_for d w ≡ 0
 fits_room {d} {w = w} f = room_there (length d.image) d.state (record_of w) (le-leb _ _ f.lies) f.few_writes f.few_bytes
@@ -176,34 +174,34 @@ module _ (d : Desk) (sheet work : List ℕ) (w : Write) where
       (tried_fits t.0, deny_reported (gate_points d w) m (sheet_finding d w sheet) t.1)
 
 -- what is done with a judged write
-module _ {d : Desk} {sheet work : List ℕ} {w : Write} {answer : Verdict} {work' : List ℕ} (j : Judges d sheet work w answer work') where
-  pub admitted_number : {n : ℕ} → answer ≡ Admitted n → judge_number d sheet work w ≡ 0
-  admitted_number a = sym (same_number j.answers) ∙ ap (λ (v : Verdict). (verdict_report v).number) a
+module _ {d : Desk} {sheet work : List ℕ} {w : Write} {answer : Judged} {work' : List ℕ} (j : Judges d sheet work w answer work') where
+  pub admitted_number : {n : ℕ} → answer ≡ Ok (Admitted n) → judge_number d sheet work w ≡ 0
+  admitted_number a = sym (same_number j.answers) ∙ ap (λ (v : Judged). (verdict_report v).number) a
 
   pub not_admitted_number : 0 < (verdict_report answer).number → 0 < judge_number d sheet work w
   not_admitted_number h = rw (same_number j.answers) at h
 
-  pub admitted_fits : {n : ℕ} → answer ≡ Admitted n → Fits d sheet work w × (sheet_finding d w sheet ≡ search.none_bad)
+  pub admitted_fits : {n : ℕ} → answer ≡ Ok (Admitted n) → Fits d sheet work w × (sheet_finding d w sheet ≡ search.none_bad)
   admitted_fits a = number_0_fits d sheet work w (admitted_number a)
 
-  pub denied_fits : {m : ℕ} → answer ≡ Denied m → Fits d sheet work w × (sheet_finding d w sheet ≡ search.first_bad m)
+  pub denied_fits : {m : ℕ} → answer ≡ Ok (Denied m) → Fits d sheet work w × (sheet_finding d w sheet ≡ search.first_bad m)
   denied_fits {m} e = report_8_fits d sheet work w m (sym j.answers ∙ ap verdict_report e)
 
   -- a refusal judged nothing
-  pub refused_work : {why : Refusal} → answer ≡ Refused why → work' ≡ work
+  pub refused_work : {why : Refusal} → answer ≡ Err why → work' ≡ work
   refused_work e =
       let nothing = same_values (sym (ap verdict_report e) ∙ j.answers) in
       let some = no_value_refused (judge_refusal d sheet work w) (gate_points d w) (sheet_finding d w sheet) nothing in
       left (sheet_image d w (sheet_finding d w sheet)) j.fills some refl
 
-  pub gates_admitted : {n : ℕ} → answer ≡ Admitted n → {d' : Desk} → d' ≡ with_write d w → Gates d sheet work w answer d' work'
+  pub gates_admitted : {n : ℕ} → answer ≡ Ok (Admitted n) → {d' : Desk} → d' ≡ with_write d w → Gates d sheet work w answer d' work'
   gates_admitted a e = record { judges = j; leaves = e ∙ done_changed d (admitted_number a) }
 
   gates_left : 0 < (verdict_report answer).number → Gates d sheet work w answer d work'
   gates_left h = record { judges = j; leaves = sym (not_done _ (with_write d w) d (not_admitted_number h)) }
 
-  pub gates_denied : {m : ℕ} → answer ≡ Denied m → Gates d sheet work w answer d work'
+  pub gates_denied : {m : ℕ} → answer ≡ Ok (Denied m) → Gates d sheet work w answer d work'
   gates_denied e = gates_left (rw e (omega arith))
 
-  pub gates_refused : {why : Refusal} → answer ≡ Refused why → Gates d sheet work w answer d work'
+  pub gates_refused : {why : Refusal} → answer ≡ Err why → Gates d sheet work w answer d work'
   gates_refused {why} e = gates_left (rw e (refusal_not_done why))

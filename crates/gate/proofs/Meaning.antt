@@ -18,28 +18,28 @@ use Rattle.sheet.specs.Sheet.{obeys, allows}
 use Rattle.sheet.proofs.Laws.{before_unseen}
 use Rattle.desk.specs.Desk.{Desk, chunk_size, view, with_write}
 use Rattle.engine.specs.Search.{sheet_finding, sheet_image}
-use Rattle.gate.specs.declared.Verdict.{Verdict}
-use Rattle.gate.specs.declared.Verdict.TheVariants.{Admitted, Denied, Refused}
-use Rattle.gate.specs.Judgement.{denied_number, verdict_report, finding_report, gate_points, judge_refusal, Judges, Gates}
+use Rattle.gate.specs.declared.Verdict.TheVariants.{Admitted, Denied}
+use Rattle.gate.specs.Judgement.{denied_number, verdict_report, finding_report, gate_points, judge_refusal, Judges, Gates, Judged}
 use Rattle.gate.specs.Meaning.{Fits, MeansBy, Means, CouldLeave}
 use Rattle.gate.proofs.JudgementLaws.{same_number, same_values, nothing_reported, one_value, tried_exactly_if, judges_tried}
 use Rattle.gate.proofs.JudgementLaws.{admitted_fits, denied_fits, gates_admitted}
+use Rattle.std.specs.Prelude.{Err, Ok}
 
 -- 8 is a denial alone
 pub denial_is_no_refusal : (why : Refusal) → refusal_number why ≡ denied_number → ⊥
 denial_is_no_refusal = refusal_not_8
 
 -- the numbers and values of document 01 tell the verdicts apart
-pub verdicts_by_report : (a b : Verdict) → verdict_report a ≡ verdict_report b → a ≡ b
-verdicts_by_report (Admitted n) (Admitted k) e = ap Admitted (one_value (same_values e))
-verdicts_by_report (Admitted n) (Denied m) e = absurd (suc-ne-zero 7 (sym (same_number e)))
-verdicts_by_report (Admitted n) (Refused why) e = absurd (nothing_reported (sym (same_values e)))
-verdicts_by_report (Denied m) (Admitted n) e = absurd (suc-ne-zero 7 (same_number e))
-verdicts_by_report (Denied m) (Denied k) e = ap Denied (one_value (same_values e))
-verdicts_by_report (Denied m) (Refused why) e = absurd (nothing_reported (sym (same_values e)))
-verdicts_by_report (Refused why) (Admitted n) e = absurd (nothing_reported (same_values e))
-verdicts_by_report (Refused why) (Denied m) e = absurd (nothing_reported (same_values e))
-verdicts_by_report (Refused why) (Refused reason) e = ap Refused (refusals_by_number why reason (same_number e))
+pub verdicts_by_report : (a b : Judged) → verdict_report a ≡ verdict_report b → a ≡ b
+verdicts_by_report (Ok (Admitted n)) (Ok (Admitted k)) e = ap Admitted (one_value (same_values e))
+verdicts_by_report (Ok (Admitted n)) (Ok (Denied m)) e = absurd (suc-ne-zero 7 (sym (same_number e)))
+verdicts_by_report (Ok (Admitted n)) (Err why) e = absurd (nothing_reported (sym (same_values e)))
+verdicts_by_report (Ok (Denied m)) (Ok (Admitted n)) e = absurd (suc-ne-zero 7 (same_number e))
+verdicts_by_report (Ok (Denied m)) (Ok (Denied k)) e = ap Denied (one_value (same_values e))
+verdicts_by_report (Ok (Denied m)) (Err why) e = absurd (nothing_reported (sym (same_values e)))
+verdicts_by_report (Err why) (Ok (Admitted n)) e = absurd (nothing_reported (same_values e))
+verdicts_by_report (Err why) (Ok (Denied m)) e = absurd (nothing_reported (same_values e))
+verdicts_by_report (Err why) (Err reason) e = ap Refused (refusals_by_number why reason (same_number e))
 
 -- the rule of a sheet looks at the image after alone
 rule_alone : (sheet : List ℕ) → ◌≡◌ {A = Test} (λ before after. obeys sheet before after) (after_alone (allows sheet))
@@ -56,23 +56,23 @@ judged d sheet w =
     (gate_judges_images (chunk_size d) (lit< tt) (view d) w (allows sheet))
 
 module _ {d : Desk} {sheet work : List ℕ} {w : Write} where
-  module _ {answer : Verdict} {work' : List ℕ} (p : Judges d sheet work w answer work') where
+  module _ {answer : Judged} {work' : List ℕ} (p : Judges d sheet work w answer work') where
     -- what a write that fits gets, by the engine's finding
     module _ (f : Fits d sheet work w) {r : search.Finding} (e : sheet_finding d w sheet ≡ r) where
       none : judge_refusal d sheet work w ≡ 0
       none = (tried_exactly_if d sheet work w).1 f
 
-      answered : (a : Verdict) → verdict_report a ≡ finding_report (gate_points d w) r → answer ≡ a
+      answered : (a : Judged) → verdict_report a ≡ finding_report (gate_points d w) r → answer ≡ a
       answered a report = verdicts_by_report answer a (changed _ p.answers none ∙ ap (finding_report (gate_points d w)) e ∙ sym report)
 
       filled : work' ≡ sheet_image d w r
       filled = changed work p.fills none ∙ ap (sheet_image d w) e
 
-    admitted_so : Fits d sheet work w → sheet_finding d w sheet ≡ search.none_bad → answer ≡ Admitted (gate_points d w)
-    admitted_so f e = answered f e (Admitted (gate_points d w)) refl
+    admitted_so : Fits d sheet work w → sheet_finding d w sheet ≡ search.none_bad → answer ≡ Ok (Admitted (gate_points d w))
+    admitted_so f e = answered f e (Ok (Admitted (gate_points d w))) refl
 
-    denied_so : (m : ℕ) → Fits d sheet work w → sheet_finding d w sheet ≡ search.first_bad m → answer ≡ Denied m
-    denied_so m f e = answered f e (Denied m) refl
+    denied_so : (m : ℕ) → Fits d sheet work w → sheet_finding d w sheet ≡ search.first_bad m → answer ≡ Ok (Denied m)
+    denied_so m f e = answered f e (Ok (Denied m)) refl
 
     -- the theorem of the gate
     pub judge_means : Means d sheet work w answer work'
@@ -102,7 +102,7 @@ module _ {d : Desk} {sheet work : List ℕ} {w : Write} where
           denied_leaves = λ m a. let f = denied_fits p a in filled f.0 f.1;
         }
 
-  pub gate_means : {answer : Verdict} {d' : Desk} {work' : List ℕ} → Gates d sheet work w answer d' work' → Means d sheet work w answer work'
+  pub gate_means : {answer : Judged} {d' : Desk} {work' : List ℕ} → Gates d sheet work w answer d' work' → Means d sheet work w answer work'
   gate_means g = judge_means g.judges
 
   -- what it is to be admitted or denied may be said otherwise, as by a number and what is reported with it
@@ -122,7 +122,7 @@ module _ {d : Desk} {sheet work : List ℕ} {w : Write} where
 
   -- The promise can be kept: a write that fits, and of which a cut could leave only images that obey, has the outcome that admits it.
   pub admitting : Fits d sheet work w → ((x : List ℕ) → CouldLeave d w x → allows sheet x ≡ true)
-      → Gates d sheet work w (Admitted (gate_points d w)) (with_write d w) (readable (write (view d) w))
+      → Gates d sheet work w (Ok (Admitted (gate_points d w))) (with_write d w) (readable (write (view d) w))
   admitting f all =
       let good : search.none_bad ≡ sheet_finding d w sheet = sym ((judged d sheet w).admits.1 all) in
       gates_admitted (judges_tried ((tried_exactly_if d sheet work w).1 f) good refl (ap (sheet_image d w) good)) refl refl

@@ -8,10 +8,9 @@ use lib.Dec.{leb, eqb}
 use lib.ListN.{length}
 use borrow.Author.Tests.{le-leb, lt-leb, leb-true, eq-eqb, ne_eqb, eqb-true}
 use Rattle.region.specs.Limits.{image_limit, log_limit}
-use Rattle.region.specs.Answer.{unless, refusal_number}
+use Rattle.region.specs.Answer.{unless, refusal_number, done}
 use Rattle.region.specs.declared.Refusal.{Refusal}
 use Rattle.region.specs.declared.Refusal.TheVariants.{BadState, BadSheet, BrokenImage}
-use Rattle.region.specs.declared.Answer.TheVariants.{Done, Refused}
 use Rattle.region.proofs.AnswerLaws.{done_changed, refused_left, passed}
 use Rattle.region.proofs.Booleans.{cond_when, cond_unless, and_unless, both, both_true}
 use Rattle.sheet.specs.Sheet.{well_formed, allows}
@@ -21,6 +20,7 @@ use Rattle.desk.specs.Desk.{Desk, desk, opened_desk}
 use Rattle.desk.specs.declared.state.State.{State}
 use Rattle.gate.specs.Meaning.{Openable}
 use Rattle.gate.specs.Opening.{open_number, Opens}
+use Rattle.std.specs.Prelude.{Err}
 
 -- the test of 1
 abbrev first : Desk → Bool
@@ -59,26 +59,26 @@ module _ (d : Desk) (sheet : List ℕ) where
 
 -- the promise, return by return
 module _ {d : Desk} {sheet : List ℕ} where
-  opens_refused : (why : Refusal) → open_number d sheet ≡ refusal_number why → Opens d sheet (Refused why) d
+  opens_refused : (why : Refusal) → open_number d sheet ≡ refusal_number why → Opens d sheet (Err why) d
   opens_refused why e = record { answers = sym e; leaves = refused_left why (opened_desk d) e }
 
-  pub opens_long : image_limit < length d.image → Opens d sheet (Refused BadState) d
+  pub opens_long : image_limit < length d.image → Opens d sheet (Err BadState) d
   unfolding open_number
   opens_long h = opens_refused BadState (cond_unless (first d) _ 1 (and_unless _ _ (lt-leb (length d.image) image_limit h)))
 
-  pub opens_other_log : (length d.log ≡ log_limit → ⊥) → Opens d sheet (Refused BadState) d
+  pub opens_other_log : (length d.log ≡ log_limit → ⊥) → Opens d sheet (Err BadState) d
   unfolding open_number
   opens_other_log n = opens_refused BadState (cond_unless (first d) _ 1 (rw (ne_eqb (length d.log) log_limit n, and-false)))
 
   module _ (short : length d.image ≤ image_limit) (buffer : length d.log ≡ log_limit) where
-    pub opens_malformed : well_formed sheet ≡ false → Opens d sheet (Refused BadSheet) d
+    pub opens_malformed : well_formed sheet ≡ false → Opens d sheet (Err BadSheet) d
     opens_malformed e = opens_refused BadSheet (first_passed d sheet short buffer ∙ cond_unless (well_formed sheet) _ 5 e)
 
-    pub opens_broken : (well_formed sheet ≡ true) × (allows sheet d.image ≡ false) → Opens d sheet (Refused BrokenImage) d
+    pub opens_broken : (well_formed sheet ≡ true) × (allows sheet d.image ≡ false) → Opens d sheet (Err BrokenImage) d
     opens_broken e = opens_refused BrokenImage (open_broken d sheet short buffer e.0 e.1)
 
     pub opens_good : (well_formed sheet ≡ true) × (allows sheet d.image ≡ true) → {st : State} → st ≡ fresh
-        → Opens d sheet Done (desk d.image st d.log)
+        → Opens d sheet done (desk d.image st d.log)
     opens_good e s =
         let none = open_good d sheet short buffer e.1 in
         record { answers = sym none; leaves = ap (λ (st : State). desk d.image st d.log) s ∙ done_changed d none }

@@ -1,7 +1,7 @@
 -- What the answers are to mean, said over the cuts themselves and not over what an engine tries. An image that a cut could leave is one that some rows
 -- leave, for any log: `can_crash_as` of pmem_async_spec_t.rs. `judge_means` and `gate_means` prove it of every answer (`proofs/Meaning.antt`),
 -- `opens_exactly_if` of an opening (`proofs/OpeningLaws.antt`).
-use Rattle.std.specs.Prelude.{ℕ, ◌+◌, ◌≤◌, ◌<◌, ◌≡◌, ◌↔◌, true, false, List, length}
+use Rattle.std.specs.Prelude.{ℕ, ◌+◌, ◌≤◌, ◌<◌, ◌≡◌, ◌↔◌, true, false, List, length, Ok}
 use Rattle.region.specs.Limits.{image_limit, writes_limit, log_limit, points_limit}
 use Rattle.region.specs.Pmemspec.{CanResultFromPartialWrite}
 use Rattle.pieces.specs.AsyncSpec.{Write, write, readable, CanCrash}
@@ -11,9 +11,8 @@ use Rattle.sheet.specs.Sheet.{well_formed, allows}
 use Rattle.desk.specs.State.{log_records, together}
 use Rattle.desk.specs.Desk.{Desk, chunk_size, view, sound}
 use Rattle.engine.specs.Search.{trial_image}
-use Rattle.gate.specs.declared.Verdict.{Verdict}
 use Rattle.gate.specs.declared.Verdict.TheVariants.{Admitted, Denied}
-use Rattle.gate.specs.Judgement.{gate_points}
+use Rattle.gate.specs.Judgement.{gate_points, Judged}
 
 -- the write fits document 01's limits: none of 1, 5, 2, 3, 4 and 7 applies
 pub record Fits (d : Desk) (sheet work : List ℕ) (w : Write) : Type 0 where
@@ -60,8 +59,8 @@ module _ (d : Desk) (sheet work : List ℕ) (w : Write) where
     pub denied_leaves : (m : ℕ) → denied m → work' ≡ trial_image d w m
 
   -- of the judging call's or the gate's answer
-  abbrev pub Means : (answer : Verdict) (work' : List ℕ) → Type 0
-  Means answer work' = MeansBy (λ n. answer ≡ Admitted n) (λ m. answer ≡ Denied m) work'
+  abbrev pub Means : (answer : Judged) (work' : List ℕ) → Type 0
+  Means answer work' = MeansBy (λ n. answer ≡ Ok (Admitted n)) (λ m. answer ≡ Ok (Denied m)) work'
 
 -- Opening is good exactly if the image is short enough and obeys the sheet, and the log buffer has its size. Nothing is asked of a state, nor of the
 -- log's bytes.

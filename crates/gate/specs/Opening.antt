@@ -2,8 +2,7 @@
 -- that it is handed nothing is asked. This takes the place of `new` of `PersistentMemoryRegionAtomic` (power_t.rs) and of `new_atomic` (power_v.rs).
 use Rattle.std.specs.Prelude.{ℕ, ◌≡◌, ◌&&◌, List, leb, eqb, length}
 use Rattle.region.specs.Limits.{image_limit, log_limit}
-use Rattle.region.specs.Answer.{answer_number, unless, if_done}
-use Rattle.region.specs.declared.Answer.{Answer}
+use Rattle.region.specs.Answer.{answer_number, unless, if_done, Answer}
 use Rattle.sheet.specs.Sheet.{sheet_number}
 use Rattle.desk.specs.Desk.{Desk, opened_desk}
 

@@ -6,12 +6,12 @@ ghost use Rattle.gate.specs.Judgement.{Gates};
 use crate::Verdict;
 use crate::judge::decide;
 use desk::room::recorded;
-use desk::state::{Outstanding, State, checked};
+use desk::state::{State, checked};
 use region::Refusal;
 
 #[derive(Clone, Copy)]
 pub struct Gated {
-    pub verdict: Verdict,
+    pub verdict: Result<Verdict, Refusal>,
     pub state: State,
 }
 
@@ -29,19 +29,19 @@ pub fn gate(
         work.old (write_of addr bytes.now) result.verdict
         (desk image.now result.state log.new) work.new }
 {
-    let Outstanding::Bytes(used) = checked(state, image.len(), log.len()) else {
+    let Ok(used) = checked(state, image.len(), log.len()) else {
         return Gated {
-            verdict: Verdict::Refused(Refusal::BadState),
+            verdict: Err(Refusal::BadState),
             state,
         };
     };
     let verdict = decide(state, used, image, log, sheet, work, addr, bytes);
     match verdict {
-        Verdict::Admitted(_) => Gated {
+        Ok(Verdict::Admitted(_)) => Gated {
             verdict,
             state: recorded(state, log, used, addr, bytes),
         },
-        Verdict::Denied(_) => Gated { verdict, state },
-        Verdict::Refused(_) => Gated { verdict, state },
+        Ok(Verdict::Denied(_)) => Gated { verdict, state },
+        Err(_) => Gated { verdict, state },
     }
 }

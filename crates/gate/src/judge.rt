@@ -7,12 +7,12 @@ ghost use Rattle.gate.specs.Judgement.{Fitting, Checked, Weighs, Judges};
 
 use crate::Verdict;
 use desk::room::room;
-use desk::state::{Outstanding, State, checked};
+use desk::state::{State, checked};
 use engine::count::log_points;
-use engine::search::{Outcome, search};
+use engine::search::search;
 use pieces::points::touched;
 use records::Record;
-use region::{Answer, POINTS_LIMIT, Refusal};
+use region::{POINTS_LIMIT, Refusal};
 use sheet::Judged;
 
 // Is the sheet well-formed? That is so for any image or none.
@@ -36,18 +36,18 @@ fn weigh(
     work: &mut [u8],
     addr: usize,
     bytes: &[u8],
-) -> Verdict
+) -> Result<Verdict, Refusal>
     requires { Fitting (desk image.now state log.now) (length work.old) (write_of addr bytes.now) }
     ensures { Weighs (desk image.now state log.now) sheet.now
         work.old (write_of addr bytes.now) result work.new }
 {
     let n = log_points(state) + touched(addr, bytes.len());
     if POINTS_LIMIT < n {
-        return Verdict::Refused(Refusal::TooManyPoints);
+        return Err(Refusal::TooManyPoints);
     }
     match search(state, image, log, sheet, work, addr, bytes, n) {
-        Outcome::AllGood => Verdict::Admitted(n),
-        Outcome::FirstBad(m) => Verdict::Denied(m),
+        None => Ok(Verdict::Admitted(n)),
+        Some(m) => Ok(Verdict::Denied(m)),
     }
 }
 
@@ -62,24 +62,24 @@ pub(crate) fn decide(
     work: &mut [u8],
     addr: usize,
     bytes: &[u8],
-) -> Verdict
+) -> Result<Verdict, Refusal>
     requires { Checked (desk image.now state log.now) used }
     ensures { Judges (desk image.now state log.now) sheet.now
         work.old (write_of addr bytes.now) result work.new }
 {
     if work.len() != image.len() {
-        return Verdict::Refused(Refusal::BadState);
+        return Err(Refusal::BadState);
     }
     if !formed(sheet, image) {
-        return Verdict::Refused(Refusal::BadSheet);
+        return Err(Refusal::BadSheet);
     }
     let r = Record {
         addr,
         len: bytes.len(),
     };
     match room(image.len(), state, used, r) {
-        Answer::Refused(why) => Verdict::Refused(why),
-        Answer::Done => weigh(state, image, log, sheet, work, addr, bytes),
+        Err(why) => Err(why),
+        Ok(()) => weigh(state, image, log, sheet, work, addr, bytes),
     }
 }
 
@@ -92,12 +92,12 @@ pub fn judge(
     work: &mut [u8],
     addr: usize,
     bytes: &[u8],
-) -> Verdict
+) -> Result<Verdict, Refusal>
     ensures { Judges (desk image.now state log.now) sheet.now
         work.old (write_of addr bytes.now) result work.new }
 {
-    let Outstanding::Bytes(used) = checked(state, image.len(), log.len()) else {
-        return Verdict::Refused(Refusal::BadState);
+    let Ok(used) = checked(state, image.len(), log.len()) else {
+        return Err(Refusal::BadState);
     };
     decide(state, used, image, log, sheet, work, addr, bytes)
 }

@@ -4,15 +4,12 @@
 
 #![tactic(auto)]
 
-use region::Refusal;
-
-// The answer of the judging call and of the gate: n of the write that it admits, the least bad m of
-// one that it denies, or why it judged none. `specs/Judgement.antt` gives each its number.
+// What the judging call and the gate say of a write: n of one that they admit, the least bad m of one
+// that they deny. `specs/Judgement.antt` gives each its number.
 #[derive(Clone, Copy)]
 pub enum Verdict {
     Admitted(usize),
     Denied(usize),
-    Refused(Refusal),
 }
 
 pub mod gate;

@@ -3,12 +3,12 @@ ghost use Rattle.desk.specs.Desk.{desk};
 ghost use Rattle.gate.specs.Opening.{Opens};
 
 use desk::state::{State, fresh};
-use region::{Answer, IMAGE_LIMIT, LOG_LIMIT, Refusal};
+use region::{IMAGE_LIMIT, LOG_LIMIT, Refusal};
 use sheet::Judged;
 
 #[derive(Clone, Copy)]
 pub struct Opened {
-    pub answer: Answer,
+    pub answer: Result<(), Refusal>,
     pub state: State,
 }
 
@@ -20,27 +20,27 @@ pub fn open(state: State, image: &[u8], log: &[u8], sheet: &[u8]) -> Opened
 {
     if IMAGE_LIMIT < image.len() {
         return Opened {
-            answer: Answer::Refused(Refusal::BadState),
+            answer: Err(Refusal::BadState),
             state,
         };
     }
     if log.len() != LOG_LIMIT {
         return Opened {
-            answer: Answer::Refused(Refusal::BadState),
+            answer: Err(Refusal::BadState),
             state,
         };
     }
     match sheet::judge(sheet, image) {
         Judged::Malformed => Opened {
-            answer: Answer::Refused(Refusal::BadSheet),
+            answer: Err(Refusal::BadSheet),
             state,
         },
         Judged::Breaks => Opened {
-            answer: Answer::Refused(Refusal::BrokenImage),
+            answer: Err(Refusal::BrokenImage),
             state,
         },
         Judged::Obeys => Opened {
-            answer: Answer::Done,
+            answer: Ok(()),
             state: fresh(),
         },
     }

@@ -2,12 +2,10 @@
 use Prim.Native.Nat.{ℕ}
 use mathlib.Core.Path.{◌≡◌, sym, ◌∙◌}
 use mathlib.Core.List.{List}
-use Rattle.region.specs.Answer.{answer_number}
-use Rattle.region.specs.declared.Answer.{Answer}
+use Rattle.region.specs.Answer.{answer_number, Answer}
 use Rattle.example.specs.Setup.{SetsUp}
-use Rattle.rounds.specs.Answer.{run_answer_number}
+use Rattle.rounds.specs.Answer.{run_answer_number, RunAnswer}
 use Rattle.example.specs.Run.{Runs}
-use Rattle.rounds.specs.declared.RunAnswer.{RunAnswer}
 use Rattle.boundary.specs.Example.{SkaldriftSetup, SkaldriftRun}
 use Rattle.linked.proofs.Numbers.{setup_answers, run_answers}
 

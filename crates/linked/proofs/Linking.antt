@@ -6,8 +6,7 @@ use mathlib.Core.Path.{◌≡◌, refl, sym, subst, ◌∙◌}
 use mathlib.Core.List.{List, []}
 use lib.ListN.{length}
 use Rattle.region.specs.Limits.{writes_limit}
-use Rattle.region.specs.Answer.{refusal_number}
-use Rattle.region.specs.declared.Answer.TheVariants as answer
+use Rattle.region.specs.Answer.{refusal_number, done}
 use Rattle.region.specs.declared.Refusal.{Refusal}
 use Rattle.region.proofs.AnswerLaws.{refusal_not_done, changed, done_changed, refused_left}
 use Rattle.desk.specs.State.{fresh}
@@ -36,6 +35,7 @@ use Rattle.linked.specs.Calls.{Call, Calls}
 use Rattle.linked.specs.Calls as calls
 use Rattle.linked.specs.TapeCalls.{TapeCall, TapeCalls}
 use Rattle.linked.specs.TapeCalls as tape_calls
+use Rattle.std.specs.Prelude.{Err}
 
 -- a refusal's number is one more than another
 pub one_more : (why : Refusal) → (k : ℕ) × (suc k ≡ refusal_number why)
@@ -50,11 +50,11 @@ abbrev with_fresh_state : Desk → Desk
 with_fresh_state found = desk found.image fresh found.log
 
 module _ {sheet : List ℕ} {found d' : Desk} where
-  opens_alike : Opens found sheet answer.Done d' → Opens (with_fresh_state found) sheet answer.Done d'
+  opens_alike : Opens found sheet done d' → Opens (with_fresh_state found) sheet done d'
   unfolding open_number
   opens_alike p = record { answers = p.answers; leaves = changed _ p.leaves (sym p.answers) ∙ done_changed _ (sym p.answers) }
 
-  refused_alike : {why : Refusal} → Opens found sheet (answer.Refused why) d' → Opens (with_fresh_state found) sheet (answer.Refused why) (with_fresh_state found)
+  refused_alike : {why : Refusal} → Opens found sheet (Err why) d' → Opens (with_fresh_state found) sheet (Err why) (with_fresh_state found)
   unfolding open_number
   refused_alike {why} p = record { answers = p.answers; leaves = refused_left why _ (sym p.answers) }
 
@@ -71,11 +71,11 @@ module _ (sheet : List ℕ) where
   renamed : {m m' : Lent} {e e' : Event} → e ≡ e' → Call sheet m e' m' → Call sheet m e m'
   renamed {m} {m'} same c = subst (λ (e : Event). Call sheet m e m') (sym same) c
 
-  refused_opening_is_a_call : {found d' : Desk} {why : Refusal} {number : ℕ} → number ≡ refusal_number why → Opens found sheet (answer.Refused why) d'
+  refused_opening_is_a_call : {found d' : Desk} {why : Refusal} {number : ℕ} → number ≡ refusal_number why → Opens found sheet (Err why) d'
       → SkaldriftOpen (lent_of (with_fresh_state found)) sheet number (lent_of (with_fresh_state found))
   refused_opening_is_a_call told p = open_right (words_length fresh refl) (sym (state_back fresh)) refl told (refused_alike p)
 
-  opening_is_a_call : {found d' : Desk} → Opens found sheet answer.Done d' → SkaldriftOpen (lent_of (with_fresh_state found)) sheet 0 (lent_of d')
+  opening_is_a_call : {found d' : Desk} → Opens found sheet done d' → SkaldriftOpen (lent_of (with_fresh_state found)) sheet 0 (lent_of d')
   opening_is_a_call p = open_right (words_length fresh refl) (sym (state_back fresh)) refl refl (opens_alike p)
 
   pub step_is_a_call : (d : Desk) → Full d → {e : Event} {d' : Desk} → Step sheet d e d' → Call sheet (lent_of d) e (lent_of d')

@@ -6,10 +6,9 @@ use mathlib.Core.Logic.{◌↔◌}
 use mathlib.Core.List.{List}
 use Rattle.region.specs.Answer.{answer_number}
 use Rattle.pieces.specs.AsyncSpec.{Write}
-use Rattle.gate.specs.Judgement.{denied_number, verdict_report}
+use Rattle.gate.specs.Judgement.{denied_number, verdict_report, Judged}
 use Rattle.gate.specs.Meaning.{Openable}
-use Rattle.gate.specs.declared.Verdict.{Verdict}
-use Rattle.gate.specs.declared.Verdict.TheVariants.{Admitted, Denied, Refused}
+use Rattle.gate.specs.declared.Verdict.TheVariants.{Admitted, Denied}
 use Rattle.gate.proofs.Gives.{opens_means}
 use Rattle.gate.proofs.Meaning.{denial_is_no_refusal, judge_means, means_by_same}
 use Rattle.boundary.specs.Words.{reported}
@@ -19,27 +18,28 @@ use Rattle.boundary.proofs.CallLaws.{StateSized}
 use Rattle.linked.specs.Meaning.{MeansByNumber}
 use Rattle.linked.proofs.Promises.{linked_open, linked_judge}
 use Rattle.linked.proofs.Runs.{done_of, admitted_of}
+use Rattle.std.specs.Prelude.{Err, Ok}
 
-denied_of : (v : Verdict) → (verdict_report v).number ≡ denied_number → (m : ℕ) × (v ≡ Denied m)
-denied_of (Admitted n) same = absurd (suc-ne-zero 7 (sym same))
-denied_of (Denied m) same = (m, refl)
-denied_of (Refused why) same = absurd (denial_is_no_refusal why same)
+denied_of : (v : Judged) → (verdict_report v).number ≡ denied_number → (m : ℕ) × (v ≡ Ok (Denied m))
+denied_of (Ok (Admitted n)) same = absurd (suc-ne-zero 7 (sym same))
+denied_of (Ok (Denied m)) same = (m, refl)
+denied_of (Err why) same = absurd (denial_is_no_refusal why same)
 
 -- a verdict is admitted, or denied, exactly if its number says so and its report holds the value
-module _ (v : Verdict) (report : ℕ) {number report' : ℕ} (same : (verdict_report v).number ≡ number) (told : reported (verdict_report v) report ≡ report') where
-  number_of : {v' : Verdict} → v ≡ v' → number ≡ (verdict_report v').number
-  number_of is = sym same ∙ ap (λ (v : Verdict). (verdict_report v).number) is
+module _ (v : Judged) (report : ℕ) {number report' : ℕ} (same : (verdict_report v).number ≡ number) (told : reported (verdict_report v) report ≡ report') where
+  number_of : {v' : Judged} → v ≡ v' → number ≡ (verdict_report v').number
+  number_of is = sym same ∙ ap (λ (v : Judged). (verdict_report v).number) is
 
-  report_of : {v' : Verdict} → v ≡ v' → report' ≡ reported (verdict_report v') report
-  report_of is = sym told ∙ ap (λ (v : Verdict). reported (verdict_report v) report) is
+  report_of : {v' : Judged} → v ≡ v' → report' ≡ reported (verdict_report v') report
+  report_of is = sym told ∙ ap (λ (v : Judged). reported (verdict_report v) report) is
 
-  admitted : (n : ℕ) → (v ≡ Admitted n) ↔ ((number ≡ 0) × (report' ≡ n))
+  admitted : (n : ℕ) → (v ≡ Ok (Admitted n)) ↔ ((number ≡ 0) × (report' ≡ n))
   admitted n = (
     λ is. (number_of is, report_of is),
     λ (none, value). let (k, is) = admitted_of v (same ∙ none) in is ∙ ap Admitted (sym (report_of is) ∙ value),
   )
 
-  denied : (m : ℕ) → (v ≡ Denied m) ↔ ((number ≡ denied_number) × (report' ≡ m))
+  denied : (m : ℕ) → (v ≡ Ok (Denied m)) ↔ ((number ≡ denied_number) × (report' ≡ m))
   denied m = (
     λ is. (number_of is, report_of is),
     λ (eight, value). let (k, is) = denied_of v (same ∙ eight) in is ∙ ap Denied (sym (report_of is) ∙ value),

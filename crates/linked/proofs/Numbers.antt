@@ -6,9 +6,7 @@ use mathlib.Core.List.{List}
 use lib.Dec.{leb, ltb, eqb}
 use lib.ListN.{length}
 use Rattle.region.specs.Limits.{image_limit, writes_limit, log_limit, points_limit}
-use Rattle.region.specs.Answer.{refusal_number, answer_number, unless, or_else}
-use Rattle.region.specs.declared.Answer.{Answer}
-use Rattle.region.specs.declared.Answer.TheVariants as answer
+use Rattle.region.specs.Answer.{refusal_number, answer_number, unless, or_else, Answer, done, Counted, counted_report}
 use Rattle.region.specs.declared.Refusal.{Refusal}
 use Rattle.region.specs.declared.Refusal.TheVariants.{BadState, OutOfRange, TooManyWrites, TooManyBytes, BadSheet, BrokenImage, TooManyPoints, BadRows, BadTape, NotPredicted, TooManyRounds}
 use Rattle.region.proofs.AnswerLaws.{done_changed}
@@ -23,14 +21,11 @@ use Rattle.desk.specs.declared.state.State.{State}
 use Rattle.writelog.specs.Write.{write_number}
 use Rattle.writelog.specs.Read.{asked_number, read_number}
 use Rattle.writelog.specs.Flush.{flush_number}
-use Rattle.writelog.specs.Cut.{cut_report, cut_told, cut_number}
-use Rattle.writelog.specs.declared.cut.CutAnswer.{CutAnswer}
-use Rattle.writelog.specs.declared.cut.CutAnswer.TheVariants as cut_answer
+use Rattle.writelog.specs.Cut.{cut_told, cut_number}
 use Rattle.writelog.proofs.CutLaws.{kept_told, refused_told}
 use Rattle.engine.specs.Search.{sheet_finding}
 use Rattle.gate.specs.Opening.{open_number}
-use Rattle.gate.specs.Judgement.{verdict_report, finding_report, gate_points, judge_refusal, judge_report}
-use Rattle.gate.specs.declared.Verdict.{Verdict}
+use Rattle.gate.specs.Judgement.{verdict_report, finding_report, gate_points, judge_refusal, judge_report, Judged}
 use Rattle.gate.specs.declared.Verdict.TheVariants as verdict
 use Rattle.gate.proofs.JudgementLaws.{by_refusal, refusal_reported}
 use Rattle.epochs.specs.Epoch.{epoch_there, epoch_number}
@@ -39,10 +34,10 @@ use Rattle.tape.specs.Write.{tape_room_number, tape_write_number}
 use Rattle.tape.specs.Ending.{as_foretold, ending_number, tape_ending_number}
 use Rattle.example.specs.Setup.{setup_number}
 use Rattle.rounds.specs.Valid.{app_valid}
-use Rattle.rounds.specs.Answer.{run_answer_number}
+use Rattle.rounds.specs.Answer.{run_answer_number, RunAnswer}
 use Rattle.example.specs.Run.{rounds_limit, run_number}
-use Rattle.rounds.specs.declared.RunAnswer.{RunAnswer}
-use Rattle.rounds.specs.declared.RunAnswer.TheVariants as run_answer
+use Rattle.rounds.specs.declared.RunError.TheVariants as run_answer
+use Rattle.std.specs.Prelude.{Err, Ok}
 
 -- an answer has this number
 abbrev pub Answers : ℕ → Type 0
@@ -51,14 +46,14 @@ Answers n = (a : Answer) × (answer_number a ≡ n)
 -- a test that refuses, and what comes after it
 tested : (t : Bool) (why : Refusal) (rest : ℕ) → Answers rest → Answers (unless t (refusal_number why) rest)
 tested true why rest a = a
-tested false why rest a = (answer.Refused why, refl)
+tested false why rest a = (Err why, refl)
 
 or_after : (n rest : ℕ) → Answers n → Answers rest → Answers (or_else n rest)
 or_after zero rest a b = b
 or_after (suc n) rest a b = a
 
 all_done : Answers 0
-all_done = (answer.Done, refl)
+all_done = (done, refl)
 
 room_answers : (L : ℕ) (st : State) (r : Record) → Answers (room_number L st r)
 room_answers L st r =
@@ -135,21 +130,21 @@ run_answers image log work addr val0 val1 rounds =
     (tested (app_valid addr val0 val1 image) BrokenImage 0 all_done))
   where
     of_run : (n : ℕ) → Answers n → (a : RunAnswer) × (run_answer_number a ≡ n)
-    of_run n (answer.Done, e) = (run_answer.Done, e)
-    of_run n (answer.Refused why, e) = (run_answer.Refused why, e)
+    of_run n (Ok unit, e) = (done, e)
+    of_run n (Err why, e) = (Err (run_answer.Refused why), e)
 
 -- what a cut answers with such a number
-pub cut_answered : (kept n : ℕ) → Answers n → (a : CutAnswer) × (cut_report a ≡ cut_told kept n)
-cut_answered kept n (answer.Done, e) = (cut_answer.Kept kept, kept_told refl (sym e))
-cut_answered kept n (answer.Refused why, e) = (cut_answer.Refused why, refused_told why kept (sym e))
+pub cut_answered : (kept n : ℕ) → Answers n → (a : Counted) × (counted_report a ≡ cut_told kept n)
+cut_answered kept n (Ok unit, e) = (Ok kept, kept_told refl (sym e))
+cut_answered kept n (Err why, e) = (Err why, refused_told why kept (sym e))
 
 -- what a judging call answers with such a number, or with the finding where it is 0
-verdict_answered : (n : ℕ) (r : search.Finding) (k : ℕ) → Answers k → (v : Verdict) × (verdict_report v ≡ by_refusal k (finding_report n r))
-verdict_answered n search.none_bad k (answer.Done, e) = (verdict.Admitted n, done_changed _ (sym e))
-verdict_answered n (search.first_bad m) k (answer.Done, e) = (verdict.Denied m, done_changed _ (sym e))
-verdict_answered n r k (answer.Refused why, e) = (verdict.Refused why, refusal_reported why (finding_report n r) (sym e))
+verdict_answered : (n : ℕ) (r : search.Finding) (k : ℕ) → Answers k → (v : Judged) × (verdict_report v ≡ by_refusal k (finding_report n r))
+verdict_answered n search.none_bad k (Ok unit, e) = (Ok (verdict.Admitted n), done_changed _ (sym e))
+verdict_answered n (search.first_bad m) k (Ok unit, e) = (Ok (verdict.Denied m), done_changed _ (sym e))
+verdict_answered n r k (Err why, e) = (Err why, refusal_reported why (finding_report n r) (sym e))
 
-pub judge_speaks : (d : Desk) (sheet work : List ℕ) (w : Write) → (v : Verdict) × (verdict_report v ≡ judge_report d sheet work w)
+pub judge_speaks : (d : Desk) (sheet work : List ℕ) (w : Write) → (v : Judged) × (verdict_report v ≡ judge_report d sheet work w)
 unfolding judge_refusal
 judge_speaks d sheet work w =
     verdict_answered (gate_points d w) (sheet_finding d w sheet) _

@@ -4,8 +4,7 @@ use Prim.Native.Nat.{ℕ, ◌+◌}
 use mathlib.Core.Path.{◌≡◌, refl, sym, ap, ◌∙◌}
 use mathlib.Core.Bool.{true, false}
 use mathlib.Core.List.{List}
-use Rattle.region.specs.Answer.{Report, answer_number}
-use Rattle.region.specs.declared.Answer.{Answer}
+use Rattle.region.specs.Answer.{Report, answer_number, Answer, Counted, counted_report}
 use Rattle.pieces.specs.AsyncSpec.{Write, readable}
 use Rattle.desk.specs.State.{record_of}
 use Rattle.desk.specs.Desk.{Desk, view}
@@ -13,11 +12,9 @@ use Rattle.desk.proofs.Views.{sized_of_appended}
 use Rattle.writelog.specs.Write.{Writes}
 use Rattle.writelog.specs.Read.{read_number, Fills}
 use Rattle.writelog.specs.Flush.{Flushes}
-use Rattle.writelog.specs.Cut.{cut_report, cut_number, kept_by_rows, Cuts}
-use Rattle.writelog.specs.declared.cut.CutAnswer.{CutAnswer}
+use Rattle.writelog.specs.Cut.{cut_number, kept_by_rows, Cuts}
 use Rattle.gate.specs.Opening.{Opens}
-use Rattle.gate.specs.Judgement.{verdict_report, judge_report, judge_number, judge_work, Judges, Gates}
-use Rattle.gate.specs.declared.Verdict.{Verdict}
+use Rattle.gate.specs.Judgement.{verdict_report, judge_report, judge_number, judge_work, Judges, Gates, Judged}
 use Rattle.tape.specs.Write.{TapeWrites}
 use Rattle.tape.specs.Flush.{TapeFlushes}
 use Rattle.tape.specs.Cut.{tape_cut_number, TapeCuts}
@@ -69,7 +66,7 @@ module _ {m : Lent} (sized : StateSized plainly m) where
     sized_after_flush = sized_after plain_laws sized p.does (λ full. full)
 
   module _ {rows : List ℕ} {report number : ℕ} {m' : Lent} {report' : ℕ} (p : SkaldriftCut m rows report number m' report') where
-    pub linked_cut : (a : CutAnswer) × ((cut_report a).number ≡ number) × (reported (cut_report a) report ≡ report') × Cuts (desk_of m) rows a (desk_of m')
+    pub linked_cut : (a : Counted) × ((counted_report a).number ≡ number) × (reported (counted_report a) report ≡ report') × Cuts (desk_of m) rows a (desk_of m')
     linked_cut =
         let at : Desk → ℕ = λ d. cut_number d rows in
         let kept = kept_by_rows (desk_of m) rows 0 in
@@ -85,7 +82,7 @@ module _ {m : Lent} (sized : StateSized plainly m) where
 
   module _ {sheet work : List ℕ} {w : Write} {report number : ℕ} {work' : List ℕ} {report' : ℕ} where
     pub linked_judge : SkaldriftJudge m sheet work w report number work' report'
-        → (v : Verdict) × ((verdict_report v).number ≡ number) × (reported (verdict_report v) report ≡ report') × Judges (desk_of m) sheet work w v work'
+        → (v : Judged) × ((verdict_report v).number ≡ number) × (reported (verdict_report v) report ≡ report') × Judges (desk_of m) sheet work w v work'
     linked_judge p =
         let (v, same) = judge_speaks (desk_of m) sheet work w in (
           v,
@@ -95,7 +92,7 @@ module _ {m : Lent} (sized : StateSized plainly m) where
         )
 
     module _ {m' : Lent} (p : SkaldriftGate m sheet work w report number m' work' report') where
-      pub linked_gate : (v : Verdict) × ((verdict_report v).number ≡ number) × (reported (verdict_report v) report ≡ report') × Gates (desk_of m) sheet work w v (desk_of m') work'
+      pub linked_gate : (v : Judged) × ((verdict_report v).number ≡ number) × (reported (verdict_report v) report ≡ report') × Gates (desk_of m) sheet work w v (desk_of m') work'
       linked_gate =
           let (v, same, told, j) = linked_judge p.judges in
           (v, same, told, record { judges = j; leaves = leaves_there plain_laws sized p.does })
@@ -124,7 +121,7 @@ module _ {t : TapeLent} {tape : List ℕ} (sized : StateSized on_tape t) where
     sized_after_tape_flush = sized_after tape_laws sized p.does (λ full. full)
 
   module _ {report number : ℕ} {t' : TapeLent} {report' : ℕ} (p : SkaldriftTapeCut t tape report number t' report') where
-    pub linked_tape_cut : (a : CutAnswer) × ((cut_report a).number ≡ number) × (reported (cut_report a) report ≡ report')
+    pub linked_tape_cut : (a : Counted) × ((counted_report a).number ≡ number) × (reported (counted_report a) report ≡ report')
         × TapeCuts (tape_desk_of t) tape a (tape_desk_of t')
     linked_tape_cut =
         let at = tape_cut_number (tape_desk_of t) tape in

@@ -9,22 +9,16 @@ use lib.Dec.{eqb}
 use lib.ListN.{length}
 use borrow.Author.Tests.{eqb-true}
 use Rattle.region.specs.Limits.{log_limit}
-use Rattle.region.specs.Answer.{answer_number}
-use Rattle.region.specs.declared.Answer.{Answer}
-use Rattle.region.specs.declared.Answer.TheVariants as answer
+use Rattle.region.specs.Answer.{answer_number, Answer, done, Counted, counted_report}
 use Rattle.region.specs.declared.Refusal.{Refusal}
 use Rattle.region.proofs.AnswerLaws.{answers_by_number, refusal_not_done, done_changed, refused_left}
 use Rattle.pieces.specs.AsyncSpec.{Write}
 use Rattle.cuts.specs.Packed.{AreBytes}
 use Rattle.desk.specs.State.{fresh}
 use Rattle.desk.specs.Desk.{Desk, desk, settled_desk}
-use Rattle.writelog.specs.Cut.{cut_report}
-use Rattle.writelog.specs.declared.cut.CutAnswer.{CutAnswer}
-use Rattle.writelog.specs.declared.cut.CutAnswer.TheVariants as cut_answer
 use Rattle.gate.specs.Opening.{open_number, Opens}
-use Rattle.gate.specs.Judgement.{verdict_report, Judges}
+use Rattle.gate.specs.Judgement.{verdict_report, Judges, Judged}
 use Rattle.gate.specs.Meaning.{CouldBeLeft}
-use Rattle.gate.specs.declared.Verdict.{Verdict}
 use Rattle.gate.specs.declared.Verdict.TheVariants as verdict
 use Rattle.gate.proofs.OpeningLaws.{opens_other_log}
 use Rattle.boundary.specs.Words.{state_words}
@@ -39,40 +33,41 @@ use Rattle.session.specs.Theorem.{Session}
 use Rattle.session.proofs.Theorem.{power_loss_cuts, session, session_throughout}
 use Rattle.linked.proofs.Promises.{linked_open, sized_after_open, linked_write, sized_after_write, linked_read, linked_flush, sized_after_flush, linked_cut, sized_after_cut, linked_judge, linked_gate, sized_after_gate, linked_tape_write, sized_after_tape_write, linked_tape_flush, sized_after_tape_flush, linked_tape_cut, sized_after_tape_cut}
 use Rattle.linked.specs.Calls.{if_0, Call, gate, judge, judged_write, judged_tape_write, refused_write, refused_tape_write, flush, tape_flush, cut, tape_cut, reopen, restart, refused_opening, read, Calls, opened, ◌and◌}
+use Rattle.std.specs.Prelude.{Err, Ok}
 
 -- the event goes by the number
 pub answer_event : (a : Answer) (e : Event) {n : ℕ} → answer_number a ≡ n → if_answered a e ≡ if_0 n e
-answer_event answer.Done e same = done_changed _ (sym same)
-answer_event (answer.Refused why) e same = refused_left why _ (sym same)
+answer_event done e same = done_changed _ (sym same)
+answer_event (Err why) e same = refused_left why _ (sym same)
 
-pub verdict_event : (v : Verdict) (e : Event) {n : ℕ} → (verdict_report v).number ≡ n → if_admitted v e ≡ if_0 n e
-verdict_event (verdict.Admitted k) e same = done_changed _ (sym same)
-verdict_event (verdict.Denied m) e same = ap (λ (n : ℕ). if_0 n e) same
-verdict_event (verdict.Refused why) e same = refused_left why _ (sym same)
+pub verdict_event : (v : Judged) (e : Event) {n : ℕ} → (verdict_report v).number ≡ n → if_admitted v e ≡ if_0 n e
+verdict_event (Ok (verdict.Admitted k)) e same = done_changed _ (sym same)
+verdict_event (Ok (verdict.Denied m)) e same = ap (λ (n : ℕ). if_0 n e) same
+verdict_event (Err why) e same = refused_left why _ (sym same)
 
-pub cut_event : (c : CutAnswer) (e : Event) {n : ℕ} → (cut_report c).number ≡ n → if_cut c e ≡ if_0 n e
-cut_event (cut_answer.Kept k) e same = done_changed _ (sym same)
-cut_event (cut_answer.Refused why) e same = refused_left why _ (sym same)
+pub cut_event : (c : Counted) (e : Event) {n : ℕ} → (counted_report c).number ≡ n → if_cut c e ≡ if_0 n e
+cut_event (Ok k) e same = done_changed _ (sym same)
+cut_event (Err why) e same = refused_left why _ (sym same)
 
 -- number 0 is 'done', 'kept' and 'admitted', and an answer's other numbers are refusals
-pub done_of : (a : Answer) → answer_number a ≡ 0 → a ≡ answer.Done
-done_of a same = answers_by_number a answer.Done same
+pub done_of : (a : Answer) → answer_number a ≡ 0 → a ≡ done
+done_of a same = answers_by_number a done same
 
-pub kept_of : (c : CutAnswer) → (cut_report c).number ≡ 0 → (k : ℕ) × (c ≡ cut_answer.Kept k)
-kept_of (cut_answer.Kept k) same = (k, refl)
-kept_of (cut_answer.Refused why) same = absurd (omega (arith, refusal_not_done why))
+pub kept_of : (c : Counted) → (counted_report c).number ≡ 0 → (k : ℕ) × (c ≡ Ok k)
+kept_of (Ok k) same = (k, refl)
+kept_of (Err why) same = absurd (omega (arith, refusal_not_done why))
 
-pub admitted_of : (v : Verdict) → (verdict_report v).number ≡ 0 → (n : ℕ) × (v ≡ verdict.Admitted n)
-admitted_of (verdict.Admitted n) same = (n, refl)
-admitted_of (verdict.Denied m) same = absurd (suc-ne-zero 7 same)
-admitted_of (verdict.Refused why) same = absurd (omega (arith, refusal_not_done why))
+pub admitted_of : (v : Judged) → (verdict_report v).number ≡ 0 → (n : ℕ) × (v ≡ Ok (verdict.Admitted n))
+admitted_of (Ok (verdict.Admitted n)) same = (n, refl)
+admitted_of (Ok (verdict.Denied m)) same = absurd (suc-ne-zero 7 same)
+admitted_of (Err why) same = absurd (omega (arith, refusal_not_done why))
 
-refused_of : (a : Answer) {why : ℕ} → answer_number a ≡ suc why → (r : Refusal) × (a ≡ answer.Refused r)
-refused_of answer.Done {why} same = absurd (suc-ne-zero why (sym same))
-refused_of (answer.Refused r) same = (r, refl)
+refused_of : (a : Answer) {why : ℕ} → answer_number a ≡ suc why → (r : Refusal) × (a ≡ Err r)
+refused_of (Ok unit) {why} same = absurd (suc-ne-zero why (sym same))
+refused_of (Err r) same = (r, refl)
 
 -- a good opening is the library's, and leaves words that say a state
-pub opens : {m : Lent} {sheet : List ℕ} {m' : Lent} → SkaldriftOpen m sheet 0 m' → StateSized plainly m' × Opens (desk_of m) sheet answer.Done (desk_of m')
+pub opens : {m : Lent} {sheet : List ℕ} {m' : Lent} → SkaldriftOpen m sheet 0 m' → StateSized plainly m' × Opens (desk_of m) sheet done (desk_of m')
 opens {m} {sheet} p =
     let sized = sized_if_done plainly m (λ d. open_number d sheet) (sym p.does.answers) in
     let (a, same, o) = linked_open sized p in
@@ -80,7 +75,7 @@ opens {m} {sheet} p =
 
 -- a verdict of number 0 is the library's
 pub admits : {m : Lent} {sheet work : List ℕ} {w : Write} {report : ℕ} {work' : List ℕ} {report' : ℕ} → StateSized plainly m
-    → SkaldriftJudge m sheet work w report 0 work' report' → (n : ℕ) × Judges (desk_of m) sheet work w (verdict.Admitted n) work'
+    → SkaldriftJudge m sheet work w report 0 work' report' → (n : ℕ) × Judges (desk_of m) sheet work w (Ok (verdict.Admitted n)) work'
 admits sized p =
     let (v, same, told, j) = linked_judge sized p in
     let (n, is) = admitted_of v same in

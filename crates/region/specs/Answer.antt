@@ -20,7 +20,8 @@ refusal_number TooManyRounds = 12
 abbrev pub Answer : Type 0
 Answer = Result ⊤ Refusal
 
-abbrev pub done : Answer
+-- such an answer where it is done, whatever the refusals are
+abbrev pub done : {E : Type 0} → Result ⊤ E
 done = Ok tt
 
 abbrev pub answer_number : Answer → ℕ
@@ -32,8 +33,11 @@ pub record Report : Type 0 where
   pub number : ℕ
   pub values : List ℕ
 
--- document 01's number and value for each answer that reports one number where it is done
-abbrev pub counted_report : Result ℕ Refusal → Report
+-- The answer of a call that reports one number where it is done.
+abbrev pub Counted : Type 0
+Counted = Result ℕ Refusal
+
+abbrev pub counted_report : Counted → Report
 counted_report (Ok n) = record { number = 0; values = n ∷ [] }
 counted_report (Err why) = record { number = refusal_number why; values = [] }
 

@@ -23,20 +23,19 @@ use Rattle.records.specs.declared.Record.{Record}
 use Rattle.desk.proofs.Soundness.{Sound, facts_sound, Room}
 use Rattle.writelog.proofs.FlushLaws.{flush_sound}
 use Rattle.desk.proofs.Views.{together_last, records_of_appended, sized_of_appended, view_of_recorded, sound_after_recorded, sound_after_settled}
-use Rattle.gate.specs.Judgement.{gate_points, verdict_report, Gates}
+use Rattle.gate.specs.Judgement.{gate_points, verdict_report, Gates, Judged}
 use Rattle.gate.specs.Meaning.{Fits, CouldLeave}
-use Rattle.gate.specs.declared.Verdict.{Verdict}
 use Rattle.gate.specs.declared.Verdict.TheVariants.{Admitted}
 use Rattle.gate.proofs.JudgementLaws.{admitted_number}
 use Rattle.gate.proofs.Meaning.{gate_means}
 use Rattle.rounds.specs.Valid.{one_of, app_valid}
 use Rattle.rounds.specs.Steps.{Under, WritesBoth, EndsPair, Goes}
-use Rattle.rounds.specs.Answer.{run_answer_number}
-use Rattle.rounds.specs.declared.RunAnswer.{RunAnswer}
-use Rattle.rounds.specs.declared.RunAnswer.TheVariants.{Done}
+use Rattle.rounds.specs.Answer.{run_answer_number, RunAnswer}
 use Rattle.rounds.proofs.AnswerNumbers.{run_answers_by_number}
 use Rattle.rounds.proofs.ByteLog.{byte_write, byte_laid, byte_writes, byte_log, byte_writes_last, byte_points, last_read}
 use Rattle.rounds.proofs.ByteLog.{all_of, left_valid, cut_leaves_a_value}
+use Rattle.std.specs.Prelude.{Ok}
+use Rattle.region.specs.Answer.{done}
 
 -- the log holds these values, written at addr
 pub record Logged (d : Desk) (addr : ℕ) (us : List ℕ) : Type 0 where
@@ -69,9 +68,9 @@ abbrev pub Admissible : Desk → (sheet work : List ℕ) → Write → Type 0
 Admissible d sheet work w = Fits d sheet work w × ((x : List ℕ) → CouldLeave d w x → allows sheet x ≡ true)
 
 -- what one value more leaves
-pub record Gated (d : Desk) (addr v : ℕ) (answer : Verdict) (d' : Desk) (work' : List ℕ) : Type 0 where
+pub record Gated (d : Desk) (addr v : ℕ) (answer : Judged) (d' : Desk) (work' : List ℕ) : Type 0 where
   pub points : ℕ
-  pub admitted : answer ≡ Admitted points
+  pub admitted : answer ≡ Ok (Admitted points)
   pub leaves : d' ≡ with_write d (byte_write addr v)
   pub work_after : work' ≡ set d.image addr v
 
@@ -125,7 +124,7 @@ module _ {d : Desk} {addr : ℕ} {us : List ℕ} (l : Logged d addr us) (lies : 
               (cut_leaves_a_value d.image addr a b lies (chunk_size d) (us ++ (v ∷ [])) good all x (rw seen_next at h)),
         )
 
-    gate_goes : {answer : Verdict} {d' : Desk} {work' : List ℕ} → Gates d sheet work w answer d' work' → Gated d addr v answer d' work'
+    gate_goes : {answer : Judged} {d' : Desk} {work' : List ℕ} → Gates d sheet work w answer d' work' → Gated d addr v answer d' work'
     gate_goes g =
         let means = gate_means g in
         let admits = means.admits.1 admissible in
@@ -178,25 +177,25 @@ module _ {d : Desk} {sheet work : List ℕ} {addr a b : ℕ} (u : Under d sheet 
   pub once_admissible : Admissible d sheet work (byte_write addr a)
   once_admissible = admissible logged_none here (omega arith) a a b u.same u.good u.says one_of_two
 
-  pub once : {answer : Verdict} {d' : Desk} {work' : List ℕ} → Gates d sheet work (byte_write addr a) answer d' work' → Gated d addr a answer d' work'
+  pub once : {answer : Judged} {d' : Desk} {work' : List ℕ} → Gates d sheet work (byte_write addr a) answer d' work' → Gated d addr a answer d' work'
   once g = gate_goes logged_none here (omega arith) a a b u.same u.good u.says one_of_two g
 
-  module _ {first : Verdict} {d₁ : Desk} {work₁ : List ℕ} (g₁ : Gated d addr a first d₁ work₁) where
+  module _ {first : Judged} {d₁ : Desk} {work₁ : List ℕ} (g₁ : Gated d addr a first d₁ work₁) where
     long : length work₁ ≡ length d.image
     long = ap length g₁.work_after ∙ length-set d.image addr a
 
     pub twice_admissible : Admissible d₁ sheet work₁ (byte_write addr b)
     twice_admissible = rw g₁.leaves (admissible logged_one here (omega arith) b a b long u.good u.says both_of_two)
 
-    pub twice : {answer : Verdict} {d' : Desk} {work' : List ℕ} → Gates d₁ sheet work₁ (byte_write addr b) answer d' work'
+    pub twice : {answer : Judged} {d' : Desk} {work' : List ℕ} → Gates d₁ sheet work₁ (byte_write addr b) answer d' work'
         → Gated with_one addr b answer d' work'
     twice g = gate_goes logged_one here (omega arith) b a b long u.good u.says both_of_two (rw g₁.leaves at g)
 
-  pub both_written : {second : Verdict} {d₂ : Desk} {work₂ : List ℕ} → Gated with_one addr b second d₂ work₂
+  pub both_written : {second : Judged} {d₂ : Desk} {work₂ : List ℕ} → Gated with_one addr b second d₂ work₂
       → {told : RunAnswer} → run_answer_number told ≡ (verdict_report second).number → WritesBoth d addr a b told d₂ work₂
   both_written g₂ {told} e =
       record {
-        answers = run_answers_by_number told Done (e ∙ ap (λ v. (verdict_report v).number) g₂.admitted);
+        answers = run_answers_by_number told done (e ∙ ap (λ v. (verdict_report v).number) g₂.admitted);
         leaves = g₂.leaves;
         work_after = g₂.work_after;
       }
@@ -208,7 +207,7 @@ module _ {d : Desk} {sheet work : List ℕ} {addr a b : ℕ} (u : Under d sheet 
       let none = flush_sound with_both (facts_sound _ _ _ logged_both.facts) in
       let left = changed with_both ends.leaves none in
       record {
-        answers = run_answers_by_number told Done (ends.answers ∙ none);
+        answers = run_answers_by_number told done (ends.answers ∙ none);
         idle = rw left (record { sized = logged_both.sized; empty = refl });
         image_after = ap (λ (x : Desk). x.image) left ∙ ap readable logged_both.seen ∙ last_read addr b (a ∷ []) d.image here;
         log_after = ap (λ (x : Desk). x.log) left

@@ -1,15 +1,13 @@
 -- Inner: what the steps of a run ask and promise. A round begins and ends on an empty log.
 use Rattle.std.specs.Prelude.{ℕ, ◌≤◌, ◌≡◌, true, List, [], ◌∷◌, length, set}
-use Rattle.region.specs.Answer.{if_done}
+use Rattle.region.specs.Answer.{if_done, done}
 use Rattle.region.specs.Limits.{image_limit, writes_limit, log_limit}
 use Rattle.pieces.specs.AsyncSpec.{write_of, readable}
 use Rattle.sheet.specs.Sheet.{obeys}
 use Rattle.desk.specs.Desk.{Desk, view, with_write, settled_desk}
 use Rattle.writelog.specs.Flush.{flush_number}
-use Rattle.rounds.specs.Answer.{run_answer_number}
+use Rattle.rounds.specs.Answer.{run_answer_number, RunAnswer}
 use Rattle.rounds.specs.Valid.{app_valid}
-use Rattle.rounds.specs.declared.RunAnswer.{RunAnswer}
-use Rattle.rounds.specs.declared.RunAnswer.TheVariants.{Done}
 
 -- an empty log
 pub record Idle (d : Desk) : Type 0 where
@@ -27,7 +25,7 @@ pub record Under (d : Desk) (sheet work : List ℕ) (addr a b : ℕ) : Type 0 wh
 
 -- what writing first and then second at addr through the gate leaves: both in the log, and the last value in the working image
 pub record WritesBoth (d : Desk) (addr first second : ℕ) (answer : RunAnswer) (d' : Desk) (work' : List ℕ) : Type 0 where
-  pub answers : answer ≡ Done
+  pub answers : answer ≡ done
   pub leaves : d' ≡ with_write (with_write d (write_of addr (first ∷ []))) (write_of addr (second ∷ []))
   pub work_after : work' ≡ set d.image addr second
 
@@ -38,7 +36,7 @@ pub record EndsPair (d : Desk) (answer : RunAnswer) (d' : Desk) : Type 0 where
 
 -- what writing first and then second at addr leaves, once it is flushed: the log empty, and the last value in the image and in the working image
 pub record Goes (d : Desk) (addr first second : ℕ) (answer : RunAnswer) (d' : Desk) (work' : List ℕ) : Type 0 where
-  pub answers : answer ≡ Done
+  pub answers : answer ≡ done
   pub idle : Idle d'
   pub image_after : d'.image ≡ set d.image addr second
   pub log_after : d'.log ≡ set (set d.log 0 first) 1 second

@@ -6,11 +6,10 @@
 
 use region::Refusal;
 
-// The answer of a run: document 01's refusals, and a write that the gate denied, which has a number of
-// its own. `specs/Answer.antt` gives each its number.
+// Why a run stopped early: a refusal, or a write that the gate denied, which has a number of its own.
+// `specs/Answer.antt` gives each its number.
 #[derive(Clone, Copy)]
-pub enum RunAnswer {
-    Done,
+pub enum RunError {
     Refused(Refusal),
     Denied,
 }

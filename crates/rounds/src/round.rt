@@ -6,37 +6,36 @@ ghost use Rattle.gate.specs.Judgement.{verdict_report};
 ghost use Rattle.rounds.specs.Answer.{run_answer_number};
 ghost use Rattle.rounds.specs.Steps.{Under, WritesBoth, EndsPair, Goes};
 
-use crate::RunAnswer;
+use crate::RunError;
 use desk::state::State;
 use gate::Verdict;
 use gate::gate::gate;
-use region::Answer;
 use writelog::flush::flush;
 
 #[derive(Clone, Copy)]
 pub struct Stepped {
     pub state: State,
-    pub answer: RunAnswer,
+    pub answer: Result<(), RunError>,
 }
 
 // The answer of a run that stops at this verdict: its number.
-fn stopped(verdict: Verdict) -> RunAnswer
+fn stopped(verdict: Result<Verdict, Refusal>) -> Result<(), RunError>
     ensures { run_answer_number result ≡ (verdict_report verdict).number }
 {
     match verdict {
-        Verdict::Admitted(_) => RunAnswer::Done,
-        Verdict::Denied(_) => RunAnswer::Denied,
-        Verdict::Refused(why) => RunAnswer::Refused(why),
+        Ok(Verdict::Admitted(_)) => Ok(()),
+        Ok(Verdict::Denied(_)) => Err(RunError::Denied),
+        Err(why) => Err(RunError::Refused(why)),
     }
 }
 
 // The answer of a flush, as a run's: the same number.
-fn settled(answer: Answer) -> RunAnswer
+fn settled(answer: Result<(), Refusal>) -> Result<(), RunError>
     ensures { run_answer_number result ≡ answer_number answer }
 {
     match answer {
-        Answer::Done => RunAnswer::Done,
-        Answer::Refused(why) => RunAnswer::Refused(why),
+        Ok(()) => Ok(()),
+        Err(why) => Err(RunError::Refused(why)),
     }
 }
 
@@ -58,7 +57,7 @@ fn write_both(
     let once = gate(state, image, log, sheet, work, addr, &[first]);
     let verdict = once.verdict;
     let next = once.state;
-    let Verdict::Admitted(_) = verdict else {
+    let Ok(Verdict::Admitted(_)) = verdict else {
         return Stepped {
             answer: stopped(verdict),
             state: next,
@@ -104,7 +103,7 @@ pub fn pair(
 {
     let written = write_both(state, image, log, sheet, work, addr, first, second);
     let answer = written.answer;
-    let RunAnswer::Done = answer else {
+    let Ok(()) = answer else {
         return written;
     };
     end_pair(written.state, image, log)

@@ -15,6 +15,7 @@ use Rattle.gate.specs.Meaning.{CouldBeLeft}
 use Rattle.gate.specs.declared.Verdict.TheVariants.{Admitted}
 use Rattle.gate.proofs.Gives.{Holds, empty_holds, judged_holds}
 use Rattle.session.specs.History.{Event, nothing, written, happen, settled}
+use Rattle.std.specs.Prelude.{Ok}
 
 pub record Keeps (sheet : List ℕ) (d : Desk) (e : Event) (d' : Desk) : Type 0 where
   pub happened : view d' ≡ happen (chunk_size d) (view d) e
@@ -29,7 +30,7 @@ module _ {sheet : List ℕ} {d : Desk} (h : Holds d sheet) where
   unmoved same = subst⁻¹ (Keeps sheet d nothing) same stays
 
   -- an admitted write, by whichever call it is recorded
-  pub records : {work : List ℕ} {w : Write} {n : ℕ} {work' : List ℕ} {d' : Desk} → Judges d sheet work w (Admitted n) work' → d' ≡ with_write d w
+  pub records : {work : List ℕ} {w : Write} {n : ℕ} {work' : List ℕ} {d' : Desk} → Judges d sheet work w (Ok (Admitted n)) work' → d' ≡ with_write d w
       → Keeps sheet d (written w) d'
   unfolding happen
   records {w = w} j e =

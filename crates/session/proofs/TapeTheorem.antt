@@ -7,15 +7,11 @@ use mathlib.Core.Path.{◌≡◌, refl, sym, ap, ap₂, subst, ◌∙◌}
 use mathlib.Core.Bool.{Bool, true, false, cond}
 use mathlib.Core.List.{List, [], ◌∷◌, ◌++◌}
 use lib.ListN.{length, get_or}
-use Rattle.region.specs.declared.Answer.{Answer}
-use Rattle.region.specs.declared.Answer.TheVariants as answer
 use Rattle.region.proofs.AnswerLaws.{refusal_not_done, left}
 use Rattle.pieces.specs.AsyncSpec.{Write, AsyncView, committed, flush_writes_selective}
 use Rattle.cuts.specs.Prophecy.{prophecy}
 use Rattle.desk.specs.Desk.{Desk, chunk_size, view}
 use Rattle.desk.proofs.Views.{writes_counted}
-use Rattle.writelog.specs.declared.cut.CutAnswer.{CutAnswer}
-use Rattle.writelog.specs.declared.cut.CutAnswer.TheVariants as cut_answer
 use Rattle.gate.proofs.Gives.{Holds}
 use Rattle.epochs.specs.Epoch.{flush_foretold}
 use Rattle.epochs.specs.Foretold.{predicted_image, predicted_now}
@@ -32,6 +28,8 @@ use Rattle.session.specs.TapeRun.{shows, TapeStep, judged_write, flush, cut, reo
 use Rattle.session.specs.TapeTheorem.{foretold_end, start_after, GoesBy, epoch_start, ChosenBy, prediction, predictions, TapeSession}
 use Rattle.session.proofs.Steps.{numbered}
 use Rattle.session.proofs.Theorem.{invariant, session}
+use Rattle.region.specs.Answer.{Answer, done, Counted}
+use Rattle.std.specs.Prelude.{Err, Ok}
 
 -- the prophecy that header and rows are, and the end that the header says
 by_header : (C : ℕ) (v : AsyncView) (tape : List ℕ) (start : ℕ) (flushing : Bool)
@@ -100,7 +98,7 @@ module _ (sheet tape : List ℕ) where
     writes_follow : {predicted : List ℕ} {w : Write} (a : Answer) {t' : TapeDesk} → TapeWrites (by_tape d start predicted) tape w a t'
         → Follows d start (if_answered a (written w)) t'
     unfolding start_after GoesBy shows
-    writes_follow {w = w} answer.Done p =
+    writes_follow {w = w} done p =
         let s = step_of_write h.sized p (sym p.answers) in
         record {
           starts = s.start_after;
@@ -109,12 +107,12 @@ module _ (sheet tape : List ℕ) where
               ap (λ (x : List ℕ). x ∷ [])
               (s.predicted_after ∙ sym (ap₂ (λ (a : ℕ) (v : AsyncView). predicted_image (chunk_size d) tape a v) s.start_after s.view_after));
         }
-    writes_follow (answer.Refused why) p = idle (kept_start (left _ p.leaves (refusal_not_done why) (sym p.answers)))
+    writes_follow (Err why) p = idle (kept_start (left _ p.leaves (refusal_not_done why) (sym p.answers)))
 
     flushes_follow : {predicted : List ℕ} (a : Answer) {t' : TapeDesk} → TapeFlushes (by_tape d start predicted) tape a t'
         → Follows d start (if_answered a flushed) t'
     unfolding start_after GoesBy shows
-    flushes_follow {predicted} answer.Done p =
+    flushes_follow {predicted} done p =
         let s = (step_of_flush h.sized p (sym p.answers)).ending in
         let as_said = (ending_done true (by_tape d start predicted) tape (sym p.answers)).foretold in
         record {
@@ -122,12 +120,12 @@ module _ (sheet tape : List ℕ) where
           goes = ap (λ (b : Bool). cond b flushed (cut_by tape (start + 1))) as_said;
           predicts = ap (λ (x : List ℕ). x ∷ []) s.predicted_after;
         }
-    flushes_follow (answer.Refused why) p = idle (kept_start (left _ p.leaves (refusal_not_done why) (sym p.answers)))
+    flushes_follow (Err why) p = idle (kept_start (left _ p.leaves (refusal_not_done why) (sym p.answers)))
 
-    cuts_follow : {predicted : List ℕ} (a : CutAnswer) {t' : TapeDesk} → TapeCuts (by_tape d start predicted) tape a t'
+    cuts_follow : {predicted : List ℕ} (a : Counted) {t' : TapeDesk} → TapeCuts (by_tape d start predicted) tape a t'
         → Follows d start (if_cut a (cut_by tape (start + 1))) t'
     unfolding start_after GoesBy shows
-    cuts_follow {predicted} (cut_answer.Kept k) p =
+    cuts_follow {predicted} (Ok k) p =
         let s = (step_of_cut h.sized p (numbered p.answers)).ending in
         let as_said = (ending_done false (by_tape d start predicted) tape (numbered p.answers)).foretold in
         record {
@@ -135,7 +133,7 @@ module _ (sheet tape : List ℕ) where
           goes = ap (λ (b : Bool). cond b flushed (cut_by tape (start + 1))) as_said;
           predicts = ap (λ (x : List ℕ). x ∷ []) s.predicted_after;
         }
-    cuts_follow (cut_answer.Refused why) p = idle (kept_start (left _ p.leaves (refusal_not_done why) (numbered p.answers)))
+    cuts_follow (Err why) p = idle (kept_start (left _ p.leaves (refusal_not_done why) (numbered p.answers)))
 
     reopened_follows : {d' : Desk} {predicted : List ℕ} → d.state.count ≡ 0 → Follows d start reopened (by_tape d' start predicted)
     unfolding start_after GoesBy shows
@@ -143,8 +141,8 @@ module _ (sheet tape : List ℕ) where
 
     openings_follow : {d' : Desk} {predicted : List ℕ} (a : Answer) → d.state.count ≡ 0
         → Follows d start (if_answered a reopened) (by_tape d' start predicted)
-    openings_follow answer.Done empty = reopened_follows empty
-    openings_follow (answer.Refused why) empty = idle refl
+    openings_follow done empty = reopened_follows empty
+    openings_follow (Err why) empty = idle refl
 
     follows : {e : Event} {t' : TapeDesk} → TapeStep sheet tape d start e t' → Follows d start e t'
     follows (judged_write {answer = a} j p) = writes_follow a p

@@ -8,9 +8,7 @@ use mathlib.Core.List.{List}
 use lib.Dec.{lit<}
 use lib.ListN.{length}
 use Rattle.region.specs.Limits.{writes_limit, log_limit}
-use Rattle.region.specs.Answer.{Report}
-use Rattle.region.specs.declared.Answer.{Answer}
-use Rattle.region.specs.declared.Answer.TheVariants.{Done}
+use Rattle.region.specs.Answer.{Report, Answer, done}
 use Rattle.pieces.specs.AsyncSpec.{AsyncView, flush_selective}
 use Rattle.pieces.specs.Rows.{rows_right, rows_at}
 use Rattle.cuts.specs.Packed.{AreBytes}
@@ -20,7 +18,6 @@ use Rattle.desk.specs.Desk.{Desk, chunk_size, chunks, view, settled_desk, opened
 use Rattle.desk.proofs.Soundness.{Sound, facts_sound}
 use Rattle.desk.proofs.Views.{view_of_settled, writes_counted}
 use Rattle.writelog.specs.Cut.{kept_by_rows, Cuts}
-use Rattle.writelog.specs.declared.cut.CutAnswer.TheVariants.{Kept}
 use Rattle.writelog.proofs.CutLaws.{cut_good, cuts_done}
 use Rattle.gate.specs.Opening.{Opens}
 use Rattle.gate.specs.Meaning.{CouldBeLeft}
@@ -29,10 +26,11 @@ use Rattle.session.specs.History.{History, opening, ◌then◌, cut_by, reopened
 use Rattle.session.specs.Run.{Run, opened, ◌and◌, cut, restart, Throughout}
 use Rattle.session.specs.Theorem.{Session}
 use Rattle.session.proofs.Steps.{step_keeps}
+use Rattle.std.specs.Prelude.{Ok}
 
 -- every image that a cut could leave is left by the cut by some table of bytes
 pub every_crash_is_a_cut : (d : Desk) → length d.state.records ≡ writes_limit → Sound d → (x : List ℕ) → CouldBeLeft d x
-    → (table : List ℕ) × AreBytes table × Cuts d table (Kept (kept_by_rows d table 0)) (settled_desk d x)
+    → (table : List ℕ) × AreBytes table × Cuts d table (Ok (kept_by_rows d table 0)) (settled_desk d x)
 every_crash_is_a_cut d sized s x c =
     let found = (tables_cover (chunk_size d) (view d) x).0 c in
     let table = found.0 in
@@ -47,7 +45,7 @@ pub record Invariant (sheet image : List ℕ) (h : History) (d : Desk) : Type 0 
   pub replayed : view d ≡ replay (chunk_size d) image h
 
 module _ (sheet image : List ℕ) where
-  begins : {d d' : Desk} → d.image ≡ image → Opens d sheet Done d' → Invariant sheet image opening d'
+  begins : {d d' : Desk} → d.image ≡ image → Opens d sheet done d' → Invariant sheet image opening d'
   unfolding replay
   begins {d} same p =
       record {
@@ -65,7 +63,7 @@ module _ (sheet image : List ℕ) where
 
   -- a power loss leaves what a cut by some table leaves, so the run goes on with that cut
   module _ {h : History} {d : Desk} (r : Run sheet image h d) (x : List ℕ) (c : CouldBeLeft d x) where
-    pub power_loss_cuts : (table : List ℕ) × AreBytes table × Cuts d table (Kept (kept_by_rows d table 0)) (settled_desk d x)
+    pub power_loss_cuts : (table : List ℕ) × AreBytes table × Cuts d table (Ok (kept_by_rows d table 0)) (settled_desk d x)
     power_loss_cuts = let i = invariant r in every_crash_is_a_cut d i.holds.sized i.holds.facts x c
 
     pub power_loss_is_a_cut : (table : List ℕ) × AreBytes table × Run sheet image (h then cut_by table 0) (settled_desk d x)
@@ -99,12 +97,12 @@ module _ (sheet image : List ℕ) where
   module _ {h : History} {d : Desk} (r : Run sheet image h d) (found : Desk) (buffer : length found.log ≡ log_limit) {answer : Answer} {d' : Desk}
       (p : Opens found sheet answer d') where
     -- the image as it lies there opens
-    pub image_opens : found.image ≡ d.image → answer ≡ Done
+    pub image_opens : found.image ≡ d.image → answer ≡ done
     image_opens same =
         (session r).next_opening_done found (rw same (cut_could_leave_the_last_flush (chunk_size d) (lit< tt) (view d))) buffer p
 
     module _ (c : CouldBeLeft d found.image) where
-      reopens : Opens found sheet Done d'
+      reopens : Opens found sheet done d'
       reopens = subst (λ (a : Answer). Opens found sheet a d') ((session r).next_opening_done found c buffer p) p
 
       -- Over whatever a power loss leaves, the opening goes on with the history: a cut, and a reopening over other memory.

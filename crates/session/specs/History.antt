@@ -1,15 +1,12 @@
 -- The history of a session, and its replay. An event is read off a call's arguments and answer, and the replay is a fold over the events alone: it
 -- looks at no state and no log buffer. Its terms are those of pmem_async_spec_t.rs: the view, `write`, `flush`, `flush_selective`.
-use Rattle.std.specs.Prelude.{ℕ, Bool, false, List, [], length, replicate}
-use Rattle.region.specs.declared.Answer.{Answer}
-use Rattle.region.specs.declared.Answer.TheVariants as answer
+use Rattle.std.specs.Prelude.{ℕ, Bool, false, List, [], length, replicate, Err, Ok}
 use Rattle.pieces.specs.AsyncSpec.{Write, AsyncView, write, flush, flush_selective}
 use Rattle.pieces.specs.Rows.{rows_at}
 use Rattle.cuts.specs.Bits.{view_chunks}
-use Rattle.writelog.specs.declared.cut.CutAnswer.{CutAnswer}
-use Rattle.writelog.specs.declared.cut.CutAnswer.TheVariants as cut_answer
-use Rattle.gate.specs.declared.Verdict.{Verdict}
 use Rattle.gate.specs.declared.Verdict.TheVariants as verdict
+use Rattle.region.specs.Answer.{Answer, done, Counted}
+use Rattle.gate.specs.Judgement.{Judged}
 
 pub data Event : Type 0 where
   -- a refusal, a denial, a verdict, a read
@@ -28,17 +25,17 @@ pub data History : Type 0 where
 infixl 10 ◌then◌
 -- the event of an answer
 abbrev pub if_answered : Answer → Event → Event
-if_answered answer.Done e = e
-if_answered (answer.Refused why) e = nothing
+if_answered (Ok unit) e = e
+if_answered (Err why) e = nothing
 
-abbrev pub if_admitted : Verdict → Event → Event
-if_admitted (verdict.Admitted n) e = e
-if_admitted (verdict.Denied m) e = nothing
-if_admitted (verdict.Refused why) e = nothing
+abbrev pub if_admitted : Judged → Event → Event
+if_admitted (Ok (verdict.Admitted n)) e = e
+if_admitted (Ok (verdict.Denied m)) e = nothing
+if_admitted (Err why) e = nothing
 
-abbrev pub if_cut : CutAnswer → Event → Event
-if_cut (cut_answer.Kept k) e = e
-if_cut (cut_answer.Refused why) e = nothing
+abbrev pub if_cut : Counted → Event → Event
+if_cut (Ok k) e = e
+if_cut (Err why) e = nothing
 
 -- an image with an empty log
 abbrev pub settled : List ℕ → AsyncView

@@ -1,12 +1,9 @@
 -- The runs of a session by tape: the tape is fixed beforehand, the epoch's start is 0 at first and handed on as the calls leave it, and every recorded
 -- write, flush and cut goes by the tape. "A write by tape doesn't judge; in a session the judging call comes first." The buffer for the predicted image is
 -- the caller's: a call takes any, and what the accepted ones left in theirs is listed.
-use Rattle.std.specs.Prelude.{ℕ, ◌+◌, ◌≡◌, List, [], ◌∷◌, ◌++◌}
-use Rattle.region.specs.declared.Answer.{Answer}
-use Rattle.region.specs.declared.Answer.TheVariants.{Done}
+use Rattle.std.specs.Prelude.{ℕ, ◌+◌, ◌≡◌, List, [], ◌∷◌, ◌++◌, Ok}
 use Rattle.pieces.specs.AsyncSpec.{Write}
 use Rattle.desk.specs.Desk.{Desk}
-use Rattle.writelog.specs.declared.cut.CutAnswer.{CutAnswer}
 use Rattle.gate.specs.Opening.{Opens}
 use Rattle.gate.specs.Judgement.{Judges}
 use Rattle.gate.specs.declared.Verdict.TheVariants.{Admitted}
@@ -16,6 +13,7 @@ use Rattle.tape.specs.Flush.{TapeFlushes}
 use Rattle.tape.specs.Cut.{TapeCuts}
 use Rattle.session.specs.History.{Event, nothing, written, flushed, cut_by, reopened, History, opening, ◌then◌, if_answered, if_cut}
 use Rattle.session.specs.Run.{Step}
+use Rattle.region.specs.Answer.{Answer, done, Counted}
 
 -- the images that an event predicts, given the buffer afterwards: an accepted call by tape has filled it
 unfoldable pub shows : Event → (predicted : List ℕ) → List (List ℕ)
@@ -29,12 +27,12 @@ module _ (sheet tape : List ℕ) where
   -- from a desk and a start to what the call leaves
   pub data TapeStep (d : Desk) (start : ℕ) : Event → TapeDesk → Type 0 where
     judged_write : {w : Write} {work work' predicted : List ℕ} {n : ℕ} {answer : Answer} {t' : TapeDesk}
-        → Judges d sheet work w (Admitted n) work' → TapeWrites (by_tape d start predicted) tape w answer t'
+        → Judges d sheet work w (Ok (Admitted n)) work' → TapeWrites (by_tape d start predicted) tape w answer t'
         → TapeStep d start (if_answered answer (written w)) t'
     flush : {predicted : List ℕ} {answer : Answer} {t' : TapeDesk}
         → TapeFlushes (by_tape d start predicted) tape answer t'
         → TapeStep d start (if_answered answer flushed) t'
-    cut : {predicted : List ℕ} {answer : CutAnswer} {t' : TapeDesk}
+    cut : {predicted : List ℕ} {answer : Counted} {t' : TapeDesk}
         → TapeCuts (by_tape d start predicted) tape answer t'
         → TapeStep d start (if_cut answer (cut_by tape (start + 1))) t'
     -- "a session by tape reopens only on an empty log", and "a reopening keeps" the start
@@ -43,14 +41,14 @@ module _ (sheet tape : List ℕ) where
         → TapeStep d start (if_answered answer reopened) (by_tape d' start predicted)
     -- a good one of the same image after a power loss, of which nothing is kept but image, tape and start
     restart : {found d' : Desk} {predicted : List ℕ}
-        → d.state.count ≡ 0 → found.image ≡ d.image → Opens found sheet Done d'
+        → d.state.count ≡ 0 → found.image ≡ d.image → Opens found sheet done d'
         → TapeStep d start reopened (by_tape d' start predicted)
     -- any other call that leaves nothing behind in the history: verdicts, reads, denials, refusals
     other : {d' : Desk} {predicted : List ℕ} → Step sheet d nothing d' → TapeStep d start nothing (by_tape d' start predicted)
 
   -- `shown`: the images predicted, the last one first
   pub data TapeRun (image : List ℕ) : History → Desk → (start : ℕ) (shown : List (List ℕ)) → Type 0 where
-    opened : {d d' : Desk} → d.image ≡ image → Opens d sheet Done d' → TapeRun image opening d' 0 []
+    opened : {d d' : Desk} → d.image ≡ image → Opens d sheet done d' → TapeRun image opening d' 0 []
     ◌and◌ : {h : History} {d : Desk} {start : ℕ} {shown : List (List ℕ)} {e : Event} {t' : TapeDesk} → TapeRun image h d start shown
         → TapeStep d start e t' → TapeRun image (h then e) t'.memory t'.start (shows e t'.predicted ++ shown)
 

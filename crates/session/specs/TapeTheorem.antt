@@ -1,12 +1,10 @@
 -- Demand 3, by tape: "With a tape of cut choices fixed beforehand, and every recorded write, flush and cut going by it, the image predicted at each step
 -- is the replay with those choices." `tape_session : TapeRun sheet tape image h d start shown → TapeSession sheet tape image h d start shown`
 -- (`proofs/TapeTheorem.antt`). The replay is that of `Session`: its history ends each epoch as the tape says.
-use Rattle.std.specs.Prelude.{ℕ, ◌+◌, ◌≡◌, cond, List, [], ◌∷◌, ◌++◌, length}
-use Rattle.region.specs.declared.Answer.TheVariants.{Done}
+use Rattle.std.specs.Prelude.{ℕ, ◌+◌, ◌≡◌, cond, List, [], ◌∷◌, ◌++◌, length, Ok}
 use Rattle.pieces.specs.AsyncSpec.{AsyncView, committed, NoOutstandingWrites}
 use Rattle.cuts.specs.Bits.{view_chunks}
 use Rattle.desk.specs.Desk.{Desk, chunk_size}
-use Rattle.writelog.specs.declared.cut.CutAnswer.TheVariants.{Kept}
 use Rattle.epochs.specs.Epoch.{flush_foretold, row_place}
 use Rattle.tape.specs.Memory.{TapeDesk, by_tape}
 use Rattle.tape.specs.Flush.{TapeFlushes}
@@ -14,6 +12,7 @@ use Rattle.tape.specs.Cut.{TapeCuts}
 use Rattle.session.specs.History.{Event, nothing, written, flushed, cut_by, reopened, History, opening, ◌then◌, replay}
 use Rattle.session.specs.Theorem.{Session}
 use Rattle.session.specs.TapeRun.{shows}
+use Rattle.region.specs.Answer.{done}
 
 -- how the epoch will end, as its header says: by a flush, or by a cut that goes by the epoch's rows
 abbrev pub foretold_end : (tape : List ℕ) (start : ℕ) → Event
@@ -70,7 +69,7 @@ pub record TapeSession (sheet tape image : List ℕ) (h : History) (d : Desk) (s
   -- The last one stands until the epoch ends,
   pub last_one_stands : (last : List ℕ) (before : List (List ℕ)) → shown ≡ last ∷ before → last ≡ prediction (chunk_size d) image tape h
   -- and the flush or the cut that is accepted then leaves it, whatever buffer it is lent.
-  pub flush_leaves_the_prediction : {predicted : List ℕ} {t' : TapeDesk} → TapeFlushes (by_tape d start predicted) tape Done t'
+  pub flush_leaves_the_prediction : {predicted : List ℕ} {t' : TapeDesk} → TapeFlushes (by_tape d start predicted) tape done t'
       → t'.memory.image ≡ prediction (chunk_size d) image tape h
-  pub cut_leaves_the_prediction : {predicted : List ℕ} {k : ℕ} {t' : TapeDesk} → TapeCuts (by_tape d start predicted) tape (Kept k) t'
+  pub cut_leaves_the_prediction : {predicted : List ℕ} {k : ℕ} {t' : TapeDesk} → TapeCuts (by_tape d start predicted) tape (Ok k) t'
       → t'.memory.image ≡ prediction (chunk_size d) image tape h

@@ -3,8 +3,6 @@
 -- argue for, and `held_before_crash` of crashinv_t.rs assumes.
 use Rattle.std.specs.Prelude.{ℕ, ◌≡◌, true, List, length}
 use Rattle.region.specs.Limits.{log_limit}
-use Rattle.region.specs.declared.Answer.{Answer}
-use Rattle.region.specs.declared.Answer.TheVariants.{Done}
 use Rattle.pieces.specs.AsyncSpec.{committed}
 use Rattle.cuts.specs.Packed.{AreBytes}
 use Rattle.sheet.specs.Sheet.{allows}
@@ -13,6 +11,7 @@ use Rattle.writelog.specs.Cut.{cut_number}
 use Rattle.gate.specs.Opening.{Opens}
 use Rattle.gate.specs.Meaning.{CouldBeLeft}
 use Rattle.session.specs.History.{History, cut_by, ◌then◌, replay}
+use Rattle.region.specs.Answer.{Answer, done}
 
 pub record Session (sheet image : List ℕ) (h : History) (d : Desk) : Type 0 where
   -- "every image that a cut could leave obeys the sheet"
@@ -20,7 +19,7 @@ pub record Session (sheet image : List ℕ) (h : History) (d : Desk) : Type 0 wh
   -- "the next opening, given buffers of the right size, is never refused": over any state and any log bytes, whatever of the outstanding writes is lost
   -- before it. The image as it lies there is one that a cut could leave.
   pub next_opening_done : (found : Desk) → CouldBeLeft d found.image → length found.log ≡ log_limit
-      → {answer : Answer} {d' : Desk} → Opens found sheet answer d' → answer ≡ Done
+      → {answer : Answer} {d' : Desk} → Opens found sheet answer d' → answer ≡ done
   -- "the image found is the one that replaying the history gives"
   pub image_is_the_replay : d.image ≡ committed (replay (chunk_size d) image h)
   -- and so is whatever image a power loss leaves: it is a cut by some table that the call accepts, and the history goes on with it

@@ -10,7 +10,6 @@ use lib.ListN.{length, take, drop, length-drop}
 use lib.Seq.{length-take-le, get_or-take, get_or-drop}
 use borrow.Author.Tests.{eq-eqb}
 use Rattle.region.specs.Limits.{writes_limit}
-use Rattle.region.specs.declared.Answer.{Answer}
 use Rattle.region.proofs.AnswerLaws.{done_changed, changed}
 use Rattle.region.proofs.Booleans.{both_true}
 use Rattle.pieces.specs.AsyncSpec.{Write, flush_selective}
@@ -22,7 +21,6 @@ use Rattle.desk.proofs.Views.{writes_counted}
 use Rattle.writelog.specs.Write.{Writes}
 use Rattle.writelog.specs.Flush.{Flushes}
 use Rattle.writelog.specs.Cut.{cut_told, Cuts}
-use Rattle.writelog.specs.declared.cut.CutAnswer.{CutAnswer}
 use Rattle.writelog.proofs.FlushLaws.{flush_sound}
 use Rattle.writelog.proofs.CutLaws.{cut_good}
 use Rattle.epochs.specs.Epoch.{epoch_rows, row_place}
@@ -33,6 +31,7 @@ use Rattle.tape.specs.Write.{tape_write_number, TapeWrites}
 use Rattle.tape.specs.Flush.{tape_flush_number, TapeFlushes}
 use Rattle.tape.specs.Cut.{tape_cut_number, TapeCuts}
 use Rattle.tape.proofs.NumberLaws.{plainly_done, ending_done}
+use Rattle.region.specs.Answer.{Answer, Counted}
 
 -- the epoch's rows as a row table of its own
 abbrev pub epoch_table : (K n : ℕ) (tape : List ℕ) (start : ℕ) → List ℕ
@@ -63,7 +62,7 @@ module _ {t : TapeDesk} {tape : List ℕ} {t' : TapeDesk} where
       record { answers = p.answers ∙ none ∙ sym plain; leaves = ap (λ x. x.memory) (changed t p.leaves none) ∙ done_changed _ plain }
 
   -- the cut by the epoch's rows
-  pub tape_cut_is_a_cut : length t.memory.state.records ≡ writes_limit → {answer : CutAnswer} → TapeCuts t tape answer t' → tape_cut_number t tape ≡ 0
+  pub tape_cut_is_a_cut : length t.memory.state.records ≡ writes_limit → {answer : Counted} → TapeCuts t tape answer t' → tape_cut_number t tape ≡ 0
       → Cuts t.memory (epoch_table (chunks t.memory) t.memory.state.count tape t.start) answer t'.memory
   tape_cut_is_a_cut sized p none =
       let d = t.memory in

@@ -8,14 +8,12 @@ use mathlib.Core.Bool.{Bool, true, false}
 use lib.ListN.{length}
 use Rattle.region.specs.Limits.{writes_limit}
 use Rattle.region.specs.View.{CanResultFromWrite, FlushPredicted}
-use Rattle.region.specs.declared.Answer.{Answer}
 use Rattle.region.proofs.AnswerLaws.{changed}
 use Rattle.pieces.specs.AsyncSpec.{Write, AsyncView, flush, write, CanCrashAs}
 use Rattle.cuts.specs.Bits.{view_chunks}
 use Rattle.cuts.proofs.Flush.{flush_leaves_the_read_image}
 use Rattle.desk.specs.Desk.{chunk_size, view}
 use Rattle.desk.proofs.Views.{view_of_recorded, view_of_settled, writes_counted}
-use Rattle.writelog.specs.declared.cut.CutAnswer.{CutAnswer}
 use Rattle.epochs.specs.Epoch.{epoch_rows, row_place}
 use Rattle.epochs.specs.Foretold.{foretold, predicted_image, predicted_now}
 use Rattle.epochs.proofs.Foretells.{predicted_of_nothing, foretold_of_a_write, foretold_flush_is_predicted, foretold_cut_is_a_crash}
@@ -26,6 +24,7 @@ use Rattle.tape.specs.Flush.{tape_flush_number, TapeFlushes}
 use Rattle.tape.specs.Cut.{tape_cut_number, TapeCuts}
 use Rattle.tape.proofs.NumberLaws.{Ending, tape_write_done, ending_done}
 use Rattle.tape.proofs.PromiseLaws.{flushed_is_predicted}
+use Rattle.region.specs.Answer.{Answer, Counted}
 
 abbrev C : TapeDesk → ℕ
 C t = chunk_size t.memory
@@ -101,7 +100,7 @@ module _ {t : TapeDesk} {tape : List ℕ} (sized : length t.memory.state.records
         ending = end;
       }
 
-  pub step_of_cut : {answer : CutAnswer} → TapeCuts t tape answer t' → tape_cut_number t tape ≡ 0 → StepOfCut t tape t'
+  pub step_of_cut : {answer : Counted} → TapeCuts t tape answer t' → tape_cut_number t tape ≡ 0 → StepOfCut t tape t'
   step_of_cut p none =
       let told = ending_done false t tape none in
       let after = changed t p.leaves none in

@@ -3,8 +3,7 @@
 use Rattle.std.specs.Prelude.{ℕ, ◌≡◌, Bool, List, length}
 use Rattle.std.specs.Bool.{beq}
 use Rattle.region.specs.Limits.{writes_limit}
-use Rattle.region.specs.Answer.{answer_number, unless, if_done, or_else}
-use Rattle.region.specs.declared.Answer.{Answer}
+use Rattle.region.specs.Answer.{answer_number, unless, if_done, or_else, Answer}
 use Rattle.pieces.specs.AsyncSpec.{size_to_chunks}
 use Rattle.desk.specs.Desk.{Desk, chunk_size, chunks, settled_desk}
 use Rattle.desk.specs.declared.state.State.{State}

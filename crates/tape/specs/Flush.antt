@@ -1,7 +1,6 @@
 -- The tape flush. A flush makes the read image the image, empties the log, and is refused with 11 where the tape foretells a cut.
 use Rattle.std.specs.Prelude.{ℕ, ◌≡◌, true, List}
-use Rattle.region.specs.Answer.{answer_number, if_done}
-use Rattle.region.specs.declared.Answer.{Answer}
+use Rattle.region.specs.Answer.{answer_number, if_done, Answer}
 use Rattle.pieces.specs.AsyncSpec.{readable}
 use Rattle.desk.specs.Desk.{view}
 use Rattle.tape.specs.Memory.{TapeDesk}

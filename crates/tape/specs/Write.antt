@@ -1,7 +1,6 @@
 -- The tape write. Document 01: it meets 1, 2, 3, 4, 10, 9, and doesn't judge.
 use Rattle.std.specs.Prelude.{ℕ, ◌+◌, ◌≡◌, List, length}
-use Rattle.region.specs.Answer.{answer_number, unless, if_done, or_else}
-use Rattle.region.specs.declared.Answer.{Answer}
+use Rattle.region.specs.Answer.{answer_number, unless, if_done, or_else, Answer}
 use Rattle.pieces.specs.AsyncSpec.{Write, size_to_chunks}
 use Rattle.desk.specs.State.{record_of, room_number}
 use Rattle.desk.specs.Desk.{chunk_size, with_write}

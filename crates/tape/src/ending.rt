@@ -7,18 +7,18 @@ ghost use Rattle.epochs.specs.Predictable.{Predictable};
 ghost use Rattle.tape.specs.Memory.{by_tape};
 ghost use Rattle.tape.specs.Ending.{ending_number, Settles, Ends};
 
-use desk::state::{Outstanding, State, checked, emptied};
+use desk::state::{State, checked, emptied};
 use epochs::epoch::{epoch, flush_foretold};
 use epochs::predict::predict;
 use pieces::lay::lay;
 use pieces::rows::row_bytes;
 use region::chunks::size_to_chunks;
-use region::{Answer, Refusal};
+use region::Refusal;
 
 // Document 01's number, the state, and where the next epoch starts.
 #[derive(Clone, Copy)]
 pub struct Ended {
-    pub answer: Answer,
+    pub answer: Result<(), Refusal>,
     pub state: State,
     pub start: usize,
 }
@@ -32,25 +32,25 @@ fn ending(
     start: usize,
     predicted: usize,
     flushing: bool,
-) -> Answer
+) -> Result<(), Refusal>
     ensures { (answer_number result ≡ ending_number flushing const_persistence_chunk_size size state log tape.now start predicted)
         × (length state.records ≡ writes_limit) }
 {
-    let Outstanding::Bytes(_) = checked(state, size, log) else {
-        return Answer::Refused(Refusal::BadState);
+    let Ok(_) = checked(state, size, log) else {
+        return Err(Refusal::BadState);
     };
     if predicted != size {
-        return Answer::Refused(Refusal::BadState);
+        return Err(Refusal::BadState);
     }
     let answer = epoch(tape, start, state.count, size);
     match answer {
-        Answer::Done => {
+        Ok(()) => {
             if flush_foretold(tape, start) != flushing {
-                return Answer::Refused(Refusal::NotPredicted);
+                return Err(Refusal::NotPredicted);
             }
-            Answer::Done
+            Ok(())
         }
-        Answer::Refused(_) => answer,
+        Err(_) => answer,
     }
 }
 
@@ -96,7 +96,7 @@ pub(crate) fn end_epoch(
         flushing,
     );
     match answer {
-        Answer::Done => {
+        Ok(()) => {
             let next = settle(state, image, log, tape, start, predicted);
             Ended {
                 answer,
@@ -104,7 +104,7 @@ pub(crate) fn end_epoch(
                 start: next,
             }
         }
-        Answer::Refused(_) => Ended {
+        Err(_) => Ended {
             answer,
             state,
             start,

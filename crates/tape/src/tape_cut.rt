@@ -5,13 +5,11 @@ ghost use Rattle.tape.specs.Cut.{TapeCuts};
 
 use crate::ending::end_epoch;
 use desk::state::State;
-use region::Answer;
 use walks::kept_count::kept;
-use writelog::cut::CutAnswer;
 
 #[derive(Clone, Copy)]
 pub struct AfterTapeCut {
-    pub answer: CutAnswer,
+    pub answer: Result<usize, Refusal>,
     pub state: State,
     pub start: usize,
 }
@@ -34,17 +32,17 @@ pub fn tape_cut(
     let answer = ended.answer;
     let next = ended.state;
     match answer {
-        Answer::Done => {
+        Ok(()) => {
             let rows = start + 1;
             let pieces = kept(state, image.len(), tape, rows);
             AfterTapeCut {
-                answer: CutAnswer::Kept(pieces),
+                answer: Ok(pieces),
                 state: next,
                 start: ended.start,
             }
         }
-        Answer::Refused(why) => AfterTapeCut {
-            answer: CutAnswer::Refused(why),
+        Err(why) => AfterTapeCut {
+            answer: Err(why),
             state: next,
             start: ended.start,
         },

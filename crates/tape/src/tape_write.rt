@@ -9,23 +9,23 @@ ghost use Rattle.tape.specs.Memory.{by_tape};
 ghost use Rattle.tape.specs.Write.{tape_room_number, TapeWrites};
 
 use desk::room::{recorded, room};
-use desk::state::{Outstanding, State, checked};
+use desk::state::{State, checked};
 use epochs::epoch::epoch;
 use epochs::predict::predict;
 use records::Record;
-use region::{Answer, Refusal};
+use region::Refusal;
 use writelog::write::Written;
 
 // Is there room for a write with this record, and a right row for it on the tape? Document 01's 2, 3,
 // 4, 10 and 9.
-fn tape_room(size: usize, state: State, used: usize, tape: &[u8], start: usize, r: Record) -> Answer
+fn tape_room(size: usize, state: State, used: usize, tape: &[u8], start: usize, r: Record) -> Result<(), Refusal>
     requires { (used ≡ together (log_records state)) × (used ≤ log_limit) × (size ≤ image_limit) }
     ensures { answer_number result ≡ tape_room_number const_persistence_chunk_size size state tape.now start r }
 {
     let answer = room(size, state, used, r);
     match answer {
-        Answer::Done => epoch(tape, start, state.count + 1, size),
-        Answer::Refused(_) => answer,
+        Ok(()) => epoch(tape, start, state.count + 1, size),
+        Err(_) => answer,
     }
 }
 
@@ -46,15 +46,15 @@ pub fn tape_write(
         tape.now (write_of addr bytes.now) result.answer
         (by_tape (desk image.now result.state log.new) start predicted.new) }
 {
-    let Outstanding::Bytes(used) = checked(state, image.len(), log.len()) else {
+    let Ok(used) = checked(state, image.len(), log.len()) else {
         return Written {
-            answer: Answer::Refused(Refusal::BadState),
+            answer: Err(Refusal::BadState),
             state,
         };
     };
     if predicted.len() != image.len() {
         return Written {
-            answer: Answer::Refused(Refusal::BadState),
+            answer: Err(Refusal::BadState),
             state,
         };
     }
@@ -64,7 +64,7 @@ pub fn tape_write(
     };
     let answer = tape_room(image.len(), state, used, tape, start, r);
     match answer {
-        Answer::Done => {
+        Ok(()) => {
             let next = recorded(state, log, used, addr, bytes);
             predict(next, image, log, tape, start, predicted);
             Written {
@@ -72,6 +72,6 @@ pub fn tape_write(
                 state: next,
             }
         }
-        Answer::Refused(_) => Written { answer, state },
+        Err(_) => Written { answer, state },
     }
 }

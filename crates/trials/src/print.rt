@@ -2,7 +2,6 @@
 use gate::Verdict;
 use region::numbers::refusal_number;
 use std::io;
-use writelog::cut::CutAnswer;
 
 pub fn name(rt: &impl Print, text: &str) -> io::Result<()> {
     print!(rt; "{text}")
@@ -37,27 +36,27 @@ pub fn seen(rt: &impl Print, image: &[u8]) -> io::Result<()> {
 }
 
 // A cut's number, with its kept count where it has one.
-pub fn cut_answer(rt: &impl Print, answer: CutAnswer) -> io::Result<()> {
+pub fn cut_answer(rt: &impl Print, answer: Result<usize, Refusal>) -> io::Result<()> {
     match answer {
-        CutAnswer::Kept(kept) => {
+        Ok(kept) => {
             number(rt, 0)?;
             number(rt, kept as u64)
         }
-        CutAnswer::Refused(why) => number(rt, refusal_number(why)),
+        Err(why) => number(rt, refusal_number(why)),
     }
 }
 
 // A verdict's number, with n or m where it has one.
-pub fn verdict(rt: &impl Print, answer: Verdict) -> io::Result<()> {
+pub fn verdict(rt: &impl Print, answer: Result<Verdict, Refusal>) -> io::Result<()> {
     match answer {
-        Verdict::Admitted(n) => {
+        Ok(Verdict::Admitted(n)) => {
             number(rt, 0)?;
             number(rt, n as u64)
         }
-        Verdict::Denied(m) => {
+        Ok(Verdict::Denied(m)) => {
             number(rt, 8)?;
             number(rt, m as u64)
         }
-        Verdict::Refused(why) => number(rt, refusal_number(why)),
+        Err(why) => number(rt, refusal_number(why)),
     }
 }

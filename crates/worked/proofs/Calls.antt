@@ -6,7 +6,6 @@ use mathlib.Core.List.{List, [], ◌∷◌}
 use lib.ListN.{replicate, set}
 use denote.Ref.{MutBor}
 use Rattle.region.specs.Limits.{writes_limit, log_limit}
-use Rattle.region.specs.declared.Answer.TheVariants.{Done, Refused}
 use Rattle.region.specs.declared.Refusal.TheVariants.{OutOfRange, BrokenImage, BadRows, BadTape, NotPredicted}
 use Rattle.pieces.specs.AsyncSpec.{Write, write_of}
 use Rattle.desk.specs.State.{record_of, appended, emptied, fresh}
@@ -16,8 +15,6 @@ use Rattle.writelog.specs.Write.{Writes}
 use Rattle.writelog.specs.Read.{Fills, HandsBack}
 use Rattle.writelog.specs.Flush.{Flushes}
 use Rattle.writelog.specs.Cut.{Cuts}
-use Rattle.writelog.specs.declared.cut.CutAnswer.TheVariants.{Kept}
-use Rattle.writelog.specs.declared.cut.CutAnswer.TheVariants as cut_answer
 use Rattle.gate.specs.Opening.{Opens}
 use Rattle.gate.specs.Judgement.{Judges, Gates}
 use Rattle.gate.specs.declared.Verdict.TheVariants.{Admitted, Denied}
@@ -27,6 +24,8 @@ use Rattle.tape.specs.Write.{TapeWrites}
 use Rattle.tape.specs.Flush.{TapeFlushes}
 use Rattle.tape.specs.Cut.{TapeCuts}
 use Rattle.worked.proofs.Computing.{calls}
+use Rattle.std.specs.Prelude.{Err}
+use Rattle.region.specs.Answer.{done}
 
 abbrev pub zeros : List ℕ
 zeros = replicate 16 0
@@ -78,7 +77,7 @@ abbrev pub tape : List ℕ
 tape = 0x80 ∷ 0x40 ∷ 0x00 ∷ 0x40 ∷ []
 
 -- AA by the gate
-pub the_opening : Opens (found zeros) eight_is_nine Done (idle zeros)
+pub the_opening : Opens (found zeros) eight_is_nine done (idle zeros)
 unfolding calls
 the_opening = record { answers = refl; leaves = refl }
 
@@ -103,23 +102,23 @@ the_denied_verdict = record { answers = refl; fills = refl }
 abbrev pub too_far : Write
 too_far = write_of 16 (0xBB ∷ [])
 
-pub the_refused_write : Writes (logged zeros 0xAA) too_far (Refused OutOfRange) (logged zeros 0xAA)
+pub the_refused_write : Writes (logged zeros 0xAA) too_far (Err OutOfRange) (logged zeros 0xAA)
 unfolding calls
 the_refused_write = record { answers = refl; leaves = refl }
 
-pub the_refused_gate : Gates (logged zeros 0xAA) eight_is_nine zeros too_far (verdict.Refused OutOfRange) (logged zeros 0xAA) zeros
+pub the_refused_gate : Gates (logged zeros 0xAA) eight_is_nine zeros too_far (Err OutOfRange) (logged zeros 0xAA) zeros
 unfolding calls
 the_refused_gate = record { judges = record { answers = refl; fills = refl }; leaves = refl }
 
-pub the_refused_tape_write : TapeWrites (by_tape (logged zeros 0xAA) 0 zeros) tape too_far (Refused OutOfRange) (by_tape (logged zeros 0xAA) 0 zeros)
+pub the_refused_tape_write : TapeWrites (by_tape (logged zeros 0xAA) 0 zeros) tape too_far (Err OutOfRange) (by_tape (logged zeros 0xAA) 0 zeros)
 unfolding calls
 the_refused_tape_write = record { answers = refl; leaves = refl }
 
-pub the_fill : Fills (logged zeros 0xAA) zeros 8 1 Done (image_with 0xAA)
+pub the_fill : Fills (logged zeros 0xAA) zeros 8 1 done (image_with 0xAA)
 unfolding calls
 the_fill = record { answers = refl; fills = refl }
 
-pub the_refused_fill : Fills (logged zeros 0xAA) zeros 16 1 (Refused OutOfRange) zeros
+pub the_refused_fill : Fills (logged zeros 0xAA) zeros 16 1 (Err OutOfRange) zeros
 unfolding calls
 the_refused_fill = record { answers = refl; fills = refl }
 
@@ -136,7 +135,7 @@ unfolding calls
 the_refused_read = record { block = refl; offset = refl; bytes = refl }
 
 -- by a table of no row
-pub the_refused_cut : Cuts (logged zeros 0xAA) [] (cut_answer.Refused BadRows) (logged zeros 0xAA)
+pub the_refused_cut : Cuts (logged zeros 0xAA) [] (Err BadRows) (logged zeros 0xAA)
 unfolding calls
 the_refused_cut = record { answers = refl; leaves = refl }
 
@@ -149,16 +148,16 @@ pub the_second_verdict : Judges (written_down (image_with 0xAA) 0xAA) eight_is_n
 unfolding calls
 the_second_verdict = record { answers = refl; fills = refl }
 
-pub the_plain_write : Writes (written_down (image_with 0xAA) 0xAA) (twice 0xCC) Done (logged (image_with 0xAA) 0xCC)
+pub the_plain_write : Writes (written_down (image_with 0xAA) 0xAA) (twice 0xCC) done (logged (image_with 0xAA) 0xCC)
 unfolding calls
 the_plain_write = record { answers = refl; leaves = refl }
 
-pub the_losing_reopening : Opens (logged (image_with 0xAA) 0xCC) eight_is_nine Done (desk (image_with 0xAA) fresh (log_with 0xCC))
+pub the_losing_reopening : Opens (logged (image_with 0xAA) 0xCC) eight_is_nine done (desk (image_with 0xAA) fresh (log_with 0xCC))
 unfolding calls
 the_losing_reopening = record { answers = refl; leaves = refl }
 
 -- over a broken image
-pub the_refused_opening : Opens (found (set zeros 8 0xAA)) eight_is_nine (Refused BrokenImage) (found (set zeros 8 0xAA))
+pub the_refused_opening : Opens (found (set zeros 8 0xAA)) eight_is_nine (Err BrokenImage) (found (set zeros 8 0xAA))
 unfolding calls
 the_refused_opening = record { answers = refl; leaves = refl }
 
@@ -166,16 +165,16 @@ pub the_third_verdict : Judges (desk (image_with 0xAA) fresh (log_with 0xCC)) ei
 unfolding calls
 the_third_verdict = record { answers = refl; fills = refl }
 
-pub the_plain_write_again : Writes (desk (image_with 0xAA) fresh (log_with 0xCC)) (twice 0xCC) Done (logged (image_with 0xAA) 0xCC)
+pub the_plain_write_again : Writes (desk (image_with 0xAA) fresh (log_with 0xCC)) (twice 0xCC) done (logged (image_with 0xAA) 0xCC)
 unfolding calls
 the_plain_write_again = record { answers = refl; leaves = refl }
 
-pub the_flush : Flushes (logged (image_with 0xAA) 0xCC) Done (written_down (image_with 0xCC) 0xCC)
+pub the_flush : Flushes (logged (image_with 0xAA) 0xCC) done (written_down (image_with 0xCC) 0xCC)
 unfolding calls
 the_flush = record { answers = refl; leaves = refl }
 
 -- DD by tape, in the epoch that a flush ends
-pub the_restart : Opens (found (image_with 0xCC)) eight_is_nine Done (idle (image_with 0xCC))
+pub the_restart : Opens (found (image_with 0xCC)) eight_is_nine done (idle (image_with 0xCC))
 unfolding calls
 the_restart = record { answers = refl; leaves = refl }
 
@@ -183,35 +182,35 @@ pub the_verdict_on_dd : Judges (idle (image_with 0xCC)) eight_is_nine zeros (twi
 unfolding calls
 the_verdict_on_dd = record { answers = refl; fills = refl }
 
-pub the_tape_write : TapeWrites (by_tape (idle (image_with 0xCC)) 0 zeros) tape (twice 0xDD) Done (by_tape (logged (image_with 0xCC) 0xDD) 0 (image_with 0xDD))
+pub the_tape_write : TapeWrites (by_tape (idle (image_with 0xCC)) 0 zeros) tape (twice 0xDD) done (by_tape (logged (image_with 0xCC) 0xDD) 0 (image_with 0xDD))
 unfolding calls
 the_tape_write = record { answers = refl; leaves = refl }
 
 -- past the tape's end, and a cut where the tape says that a flush will come
-pub the_tape_write_past_the_end : TapeWrites (by_tape (idle (image_with 0xCC)) 4 zeros) tape (twice 0xDD) (Refused BadTape) (by_tape (idle (image_with 0xCC)) 4 zeros)
+pub the_tape_write_past_the_end : TapeWrites (by_tape (idle (image_with 0xCC)) 4 zeros) tape (twice 0xDD) (Err BadTape) (by_tape (idle (image_with 0xCC)) 4 zeros)
 unfolding calls
 the_tape_write_past_the_end = record { answers = refl; leaves = refl }
 
-pub the_refused_tape_cut : TapeCuts (by_tape (logged (image_with 0xCC) 0xDD) 0 zeros) tape (cut_answer.Refused NotPredicted) (by_tape (logged (image_with 0xCC) 0xDD) 0 zeros)
+pub the_refused_tape_cut : TapeCuts (by_tape (logged (image_with 0xCC) 0xDD) 0 zeros) tape (Err NotPredicted) (by_tape (logged (image_with 0xCC) 0xDD) 0 zeros)
 unfolding calls
 the_refused_tape_cut = record { answers = refl; leaves = refl }
 
 -- lent another buffer than the write was
-pub the_tape_flush : TapeFlushes (by_tape (logged (image_with 0xCC) 0xDD) 0 zeros) tape Done (by_tape (written_down (image_with 0xDD) 0xDD) 2 (image_with 0xDD))
+pub the_tape_flush : TapeFlushes (by_tape (logged (image_with 0xCC) 0xDD) 0 zeros) tape done (by_tape (written_down (image_with 0xDD) 0xDD) 2 (image_with 0xDD))
 unfolding calls
 the_tape_flush = record { answers = refl; leaves = refl }
 
 -- BB by tape, in the epoch that a cut ends, after a reopening and a power loss
-pub the_reopening : Opens (written_down (image_with 0xDD) 0xDD) eight_is_nine Done (desk (image_with 0xDD) fresh (log_with 0xDD))
+pub the_reopening : Opens (written_down (image_with 0xDD) 0xDD) eight_is_nine done (desk (image_with 0xDD) fresh (log_with 0xDD))
 unfolding calls
 the_reopening = record { answers = refl; leaves = refl }
 
-pub the_second_restart : Opens (found (image_with 0xDD)) eight_is_nine Done (idle (image_with 0xDD))
+pub the_second_restart : Opens (found (image_with 0xDD)) eight_is_nine done (idle (image_with 0xDD))
 unfolding calls
 the_second_restart = record { answers = refl; leaves = refl }
 
 -- a flush where the tape says that a cut will come
-pub the_refused_tape_flush : TapeFlushes (by_tape (idle (image_with 0xDD)) 2 zeros) tape (Refused NotPredicted) (by_tape (idle (image_with 0xDD)) 2 zeros)
+pub the_refused_tape_flush : TapeFlushes (by_tape (idle (image_with 0xDD)) 2 zeros) tape (Err NotPredicted) (by_tape (idle (image_with 0xDD)) 2 zeros)
 unfolding calls
 the_refused_tape_flush = record { answers = refl; leaves = refl }
 
@@ -219,7 +218,7 @@ pub the_verdict_on_bb : Judges (idle (image_with 0xDD)) eight_is_nine zeros (twi
 unfolding calls
 the_verdict_on_bb = record { answers = refl; fills = refl }
 
-pub the_second_tape_write : TapeWrites (by_tape (idle (image_with 0xDD)) 2 zeros) tape (twice 0xBB) Done (by_tape (logged (image_with 0xDD) 0xBB) 2 (image_with 0xBB))
+pub the_second_tape_write : TapeWrites (by_tape (idle (image_with 0xDD)) 2 zeros) tape (twice 0xBB) done (by_tape (logged (image_with 0xDD) 0xBB) 2 (image_with 0xBB))
 unfolding calls
 the_second_tape_write = record { answers = refl; leaves = refl }
 

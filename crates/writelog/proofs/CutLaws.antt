@@ -3,19 +3,19 @@ use Prim.Native.Nat.{ℕ}
 use mathlib.Core.Path.{◌≡◌, refl, sym, ap, ◌∙◌}
 use mathlib.Core.Bool.{Bool, true, false}
 use mathlib.Core.List.{List, [], ◌∷◌}
-use Rattle.region.specs.Answer.{unless, refusal_number}
+use Rattle.region.specs.Answer.{unless, refusal_number, counted_report}
 use Rattle.region.specs.declared.Refusal.{Refusal}
 use Rattle.region.proofs.AnswerLaws.{done_changed, refused_left}
 use Rattle.region.proofs.Booleans.{cond_when, cond_unless}
 use Rattle.pieces.specs.Rows.{rows_right}
 use Rattle.desk.specs.Desk.{Desk, chunks, sound, settled_desk}
-use Rattle.writelog.specs.Cut.{cut_report, cut_told, image_by_rows, kept_by_rows, cut_number, Cuts}
-use Rattle.writelog.specs.declared.cut.CutAnswer.TheVariants.{Kept, Refused}
+use Rattle.writelog.specs.Cut.{cut_told, image_by_rows, kept_by_rows, cut_number, Cuts}
+use Rattle.std.specs.Prelude.{Ok, Err}
 
-pub kept_told : {k kept n : ℕ} → k ≡ kept → n ≡ 0 → cut_report (Kept k) ≡ cut_told kept n
+pub kept_told : {k kept n : ℕ} → k ≡ kept → n ≡ 0 → counted_report (Ok k) ≡ cut_told kept n
 kept_told {kept = kept} e none = ap (λ (k : ℕ). cut_told k 0) e ∙ ap (cut_told kept) (sym none)
 
-pub refused_told : (why : Refusal) (kept : ℕ) {n : ℕ} → n ≡ refusal_number why → cut_report (Refused why) ≡ cut_told kept n
+pub refused_told : (why : Refusal) (kept : ℕ) {n : ℕ} → n ≡ refusal_number why → counted_report (Err why) ≡ cut_told kept n
 refused_told why kept some =
     ap (λ (vs : List ℕ). record { number = refusal_number why; values = vs }) (refused_left {n = refusal_number why} why (kept ∷ []) refl)
     ∙ ap (cut_told kept) (sym some)
@@ -40,8 +40,8 @@ module _ (d : Desk) (table : List ℕ) where
   cut_good e f = cond_when (sound d) after_1 1 e ∙ cond_when right 0 9 f
 
 module _ {d : Desk} {table : List ℕ} where
-  pub cuts_done : cut_number d table ≡ 0 → {k : ℕ} {d' : Desk} → k ≡ kept_by_rows d table 0 → d' ≡ settled_desk d (image_by_rows d table 0) → Cuts d table (Kept k) d'
+  pub cuts_done : cut_number d table ≡ 0 → {k : ℕ} {d' : Desk} → k ≡ kept_by_rows d table 0 → d' ≡ settled_desk d (image_by_rows d table 0) → Cuts d table (Ok k) d'
   cuts_done none kept left = record { answers = kept_told kept none; leaves = left ∙ done_changed d none }
 
-  pub cuts_refused : (why : Refusal) → cut_number d table ≡ refusal_number why → Cuts d table (Refused why) d
+  pub cuts_refused : (why : Refusal) → cut_number d table ≡ refusal_number why → Cuts d table (Err why) d
   cuts_refused why e = record { answers = refused_told why (kept_by_rows d table 0) e; leaves = refused_left why _ e }

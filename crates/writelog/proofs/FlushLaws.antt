@@ -2,12 +2,13 @@
 use mathlib.Core.Path.{◌≡◌, sym, ◌∙◌}
 use mathlib.Core.Bool.{true, false}
 use Rattle.region.specs.declared.Refusal.TheVariants.{BadState}
-use Rattle.region.specs.declared.Answer.TheVariants.{Done, Refused}
 use Rattle.region.proofs.AnswerLaws.{done_changed, refused_left}
 use Rattle.region.proofs.Booleans.{cond_when, cond_unless}
 use Rattle.pieces.specs.AsyncSpec.{readable}
 use Rattle.desk.specs.Desk.{Desk, view, sound, settled_desk}
 use Rattle.writelog.specs.Flush.{flush_number, Flushes}
+use Rattle.region.specs.Answer.{done}
+use Rattle.std.specs.Prelude.{Err}
 
 module _ (d : Desk) where
   pub flush_sound : sound d ≡ true → flush_number d ≡ 0
@@ -19,8 +20,8 @@ module _ (d : Desk) where
   flush_unsound e = cond_unless (sound d) 0 1 e
 
 module _ {d : Desk} where
-  pub flushes_done : sound d ≡ true → {d' : Desk} → d' ≡ settled_desk d (readable (view d)) → Flushes d Done d'
+  pub flushes_done : sound d ≡ true → {d' : Desk} → d' ≡ settled_desk d (readable (view d)) → Flushes d done d'
   flushes_done e left = let none = flush_sound d e in record { answers = sym none; leaves = left ∙ done_changed d none }
 
-  pub flushes_refused : sound d ≡ false → Flushes d (Refused BadState) d
+  pub flushes_refused : sound d ≡ false → Flushes d (Err BadState) d
   flushes_refused e = let one = flush_unsound d e in record { answers = sym one; leaves = refused_left BadState _ one }

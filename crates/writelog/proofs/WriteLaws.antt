@@ -1,15 +1,14 @@
 -- Which of a write's tests gives its number, and the promise of a done write and of a refused one. Assumes nothing.
 use mathlib.Core.Path.{◌≡◌, sym, ap, ◌∙◌}
 use mathlib.Core.Bool.{true, false}
-use Rattle.region.specs.Answer.{answer_number}
+use Rattle.region.specs.Answer.{answer_number, Answer, done}
 use Rattle.region.specs.declared.Refusal.{Refusal}
-use Rattle.region.specs.declared.Answer.{Answer}
-use Rattle.region.specs.declared.Answer.TheVariants.{Done, Refused}
 use Rattle.region.proofs.AnswerLaws.{done_changed, refused_left}
 use Rattle.region.proofs.Booleans.{cond_when, cond_unless}
 use Rattle.pieces.specs.AsyncSpec.{Write}
 use Rattle.desk.specs.Desk.{Desk, sound, room_for, with_write}
 use Rattle.writelog.specs.Write.{write_number, Writes}
+use Rattle.std.specs.Prelude.{Err}
 
 module _ (d : Desk) (w : Write) where
   pub write_unsound : sound d ≡ false → write_number d w ≡ 1
@@ -21,8 +20,8 @@ module _ (d : Desk) (w : Write) where
   write_sound e = cond_when (sound d) (room_for d w) 1 e
 
 module _ {d : Desk} {w : Write} {answer : Answer} (number : answer_number answer ≡ write_number d w) where
-  pub writes_done : {d' : Desk} → answer ≡ Done → d' ≡ with_write d w → Writes d w answer d'
+  pub writes_done : {d' : Desk} → answer ≡ done → d' ≡ with_write d w → Writes d w answer d'
   writes_done e left = record { answers = number; leaves = left ∙ done_changed d (sym number ∙ ap answer_number e) }
 
-  pub writes_refused : (why : Refusal) → answer ≡ Refused why → Writes d w answer d
+  pub writes_refused : (why : Refusal) → answer ≡ Err why → Writes d w answer d
   writes_refused why e = record { answers = number; leaves = refused_left why (with_write d w) (sym number ∙ ap answer_number e) }

@@ -1,17 +1,10 @@
 -- The cut. Document 01: "A cut makes the replay with the rows the image and reports the kept count" and empties the log; it meets 1 and 9.
 use Rattle.std.specs.Prelude.{ℕ, ◌≡◌, Bool, List, [], ◌∷◌}
-use Rattle.region.specs.Answer.{Report, refusal_number, unless, if_done}
+use Rattle.region.specs.Answer.{Report, unless, if_done, Counted, counted_report}
 use Rattle.pieces.specs.AsyncSpec.{flush_selective}
 use Rattle.pieces.specs.Rows.{rows_right, rows_at}
 use Rattle.pieces.specs.Kept.{kept}
 use Rattle.desk.specs.Desk.{Desk, chunk_size, chunks, view, sound, settled_desk}
-use Rattle.writelog.specs.declared.cut.CutAnswer.{CutAnswer}
-use Rattle.writelog.specs.declared.cut.CutAnswer.TheVariants.{Kept, Refused}
-
--- document 01's number and value for each case of the answer
-abbrev pub cut_report : CutAnswer → Report
-cut_report (Kept k) = record { number = 0; values = k ∷ [] }
-cut_report (Refused why) = record { number = refusal_number why; values = [] }
 
 -- the report of a cut with this number: the kept count where it is done, and nothing else
 abbrev pub cut_told : (kept number : ℕ) → Report
@@ -36,6 +29,6 @@ module _ (d : Desk) (table : List ℕ) where
       0)
 
   -- what a cut promises: its number with the kept count, and the desk afterwards
-  pub record Cuts (answer : CutAnswer) (d' : Desk) : Type 0 where
-    pub answers : cut_report answer ≡ cut_told (kept_by_rows d table 0) cut_number
+  pub record Cuts (answer : Counted) (d' : Desk) : Type 0 where
+    pub answers : counted_report answer ≡ cut_told (kept_by_rows d table 0) cut_number
     pub leaves : d' ≡ if_done cut_number (settled_desk d (image_by_rows d table 0)) d

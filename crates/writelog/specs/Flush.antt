@@ -1,7 +1,6 @@
 -- The flush. Document 01: "A flush makes the read image the image" and empties the log; it meets 1.
 use Rattle.std.specs.Prelude.{ℕ, ◌≡◌}
-use Rattle.region.specs.Answer.{answer_number, unless, if_done}
-use Rattle.region.specs.declared.Answer.{Answer}
+use Rattle.region.specs.Answer.{answer_number, unless, if_done, Answer}
 use Rattle.pieces.specs.AsyncSpec.{readable}
 use Rattle.desk.specs.Desk.{Desk, view, sound, settled_desk}
 

@@ -3,8 +3,7 @@
 use Rattle.std.specs.Prelude.{ℕ, ◌+◌, ◌≡◌, ◌&&◌, List, [], leb, eqb, length}
 use Rattle.std.specs.Borrow.{MutBor}
 use Rattle.region.specs.Pmemspec.{extract_bytes}
-use Rattle.region.specs.Answer.{answer_number, unless, if_done}
-use Rattle.region.specs.declared.Answer.{Answer}
+use Rattle.region.specs.Answer.{answer_number, unless, if_done, Answer}
 use Rattle.pieces.specs.AsyncSpec.{readable}
 use Rattle.desk.specs.State.{sound_for}
 use Rattle.desk.specs.Desk.{Desk, view}

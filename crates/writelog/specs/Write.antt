@@ -1,7 +1,6 @@
 -- The plain write. Document 01: it meets 1, 2, 3, 4. `write` of pmem_async_spec_t.rs is what it does to the view (`Views` of `desk`).
 use Rattle.std.specs.Prelude.{ℕ, ◌≡◌}
-use Rattle.region.specs.Answer.{answer_number, unless, if_done}
-use Rattle.region.specs.declared.Answer.{Answer}
+use Rattle.region.specs.Answer.{answer_number, unless, if_done, Answer}
 use Rattle.pieces.specs.AsyncSpec.{Write}
 use Rattle.desk.specs.Desk.{Desk, sound, room_for, with_write}
 

@@ -6,23 +6,17 @@ ghost use Rattle.pieces.specs.Rows.{rows_right};
 ghost use Rattle.desk.specs.Desk.{desk};
 ghost use Rattle.writelog.specs.Cut.{Cuts};
 
-use desk::state::{Outstanding, State, checked, emptied};
+use desk::state::{State, checked, emptied};
 use pieces::rows::{row_bytes, rows_filled};
 use region::Refusal;
 use region::chunks::size_to_chunks;
 use walks::kept_count::kept;
 use walks::selected::replay_selected;
 
-// The answer of a cut: how many pieces it kept, or why it refused.
-#[derive(Clone, Copy)]
-pub enum CutAnswer {
-    Kept(usize),
-    Refused(Refusal),
-}
-
 #[derive(Clone, Copy)]
 pub struct AfterCut {
-    pub answer: CutAnswer,
+    // How many pieces it kept.
+    pub answer: Result<usize, Refusal>,
     pub state: State,
 }
 
@@ -44,22 +38,22 @@ pub fn cut(state: State, image: &mut [u8], log: &[u8], rows: &[u8]) -> AfterCut
         (desk image.new result.state log.now) }
 {
     let size = image.len();
-    let Outstanding::Bytes(_) = checked(state, size, log.len()) else {
+    let Ok(_) = checked(state, size, log.len()) else {
         return AfterCut {
-            answer: CutAnswer::Refused(Refusal::BadState),
+            answer: Err(Refusal::BadState),
             state,
         };
     };
     if !rows_right(rows, state.count, size) {
         return AfterCut {
-            answer: CutAnswer::Refused(Refusal::BadRows),
+            answer: Err(Refusal::BadRows),
             state,
         };
     }
     let width = row_bytes(size_to_chunks(size));
     replay_selected(state, log, rows, width, image, 0);
     AfterCut {
-        answer: CutAnswer::Kept(kept(state, size, rows, 0)),
+        answer: Ok(kept(state, size, rows, 0)),
         state: emptied(state),
     }
 }

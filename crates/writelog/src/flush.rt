@@ -2,13 +2,13 @@
 ghost use Rattle.desk.specs.Desk.{desk};
 ghost use Rattle.writelog.specs.Flush.{Flushes};
 
-use desk::state::{Outstanding, State, checked, emptied};
-use region::{Answer, Refusal};
+use desk::state::{State, checked, emptied};
+use region::Refusal;
 use walks::whole::replay_whole;
 
 #[derive(Clone, Copy)]
 pub struct Flushed {
-    pub answer: Answer,
+    pub answer: Result<(), Refusal>,
     pub state: State,
 }
 
@@ -16,15 +16,15 @@ pub struct Flushed {
 pub fn flush(state: State, image: &mut [u8], log: &[u8]) -> Flushed
     ensures { Flushes (desk image.old state log.now) result.answer (desk image.new result.state log.now) }
 {
-    let Outstanding::Bytes(_) = checked(state, image.len(), log.len()) else {
+    let Ok(_) = checked(state, image.len(), log.len()) else {
         return Flushed {
-            answer: Answer::Refused(Refusal::BadState),
+            answer: Err(Refusal::BadState),
             state,
         };
     };
     replay_whole(state, log, image);
     Flushed {
-        answer: Answer::Done,
+        answer: Ok(()),
         state: emptied(state),
     }
 }

@@ -5,25 +5,25 @@ ghost use Rattle.region.specs.Limits.{writes_limit};
 ghost use Rattle.desk.specs.Desk.{desk};
 ghost use Rattle.writelog.specs.Read.{asked_number, read_number, Fills, HandsBack};
 
-use desk::state::{Outstanding, State, checked, within};
+use desk::state::{State, checked, within};
 use pieces::lay::lay;
-use region::{Answer, Refusal};
+use region::Refusal;
 use walks::whole::replay_whole;
 
 // The answer for an image, a log buffer and a working image of these lengths.
-fn asked(state: State, image: usize, log: usize, work: usize, addr: usize, len: usize) -> Answer
+fn asked(state: State, image: usize, log: usize, work: usize, addr: usize, len: usize) -> Result<(), Refusal>
     ensures { (answer_number result ≡ asked_number image state log work addr len) × (length state.records ≡ writes_limit) }
 {
-    let Outstanding::Bytes(_) = checked(state, image, log) else {
-        return Answer::Refused(Refusal::BadState);
+    let Ok(_) = checked(state, image, log) else {
+        return Err(Refusal::BadState);
     };
     if work != image {
-        return Answer::Refused(Refusal::BadState);
+        return Err(Refusal::BadState);
     }
     if !within(addr, len, image) {
-        return Answer::Refused(Refusal::OutOfRange);
+        return Err(Refusal::OutOfRange);
     }
-    Answer::Done
+    Ok(())
 }
 
 // The number of the question, which tells a refusal from a good ask for no bytes. Nothing is filled.
@@ -34,7 +34,7 @@ pub fn read_number(
     work: &[u8],
     addr: usize,
     len: usize,
-) -> Answer
+) -> Result<(), Refusal>
     ensures { answer_number result ≡ read_number (desk image.now state log.now) work.now addr len }
 {
     asked(state, image.len(), log.len(), work.len(), addr, len)
@@ -48,11 +48,11 @@ pub fn read_fill(
     work: &mut [u8],
     addr: usize,
     len: usize,
-) -> Answer
+) -> Result<(), Refusal>
     ensures { Fills (desk image.now state log.now) work.old addr len result work.new }
 {
     let answer = asked(state, image.len(), log.len(), work.len(), addr, len);
-    let Answer::Done = answer else {
+    let Ok(()) = answer else {
         return answer;
     };
     lay(work, 0, image);
@@ -71,7 +71,7 @@ pub fn read<'a>(
 ) -> &'a mut [u8]
     ensures { HandsBack (desk image.now state log.now) work.entry addr len result }
 {
-    let Answer::Done = read_fill(state, image, log, work, addr, len) else {
+    let Ok(()) = read_fill(state, image, log, work, addr, len) else {
         return &mut work[..0];
     };
     let end = addr + len;

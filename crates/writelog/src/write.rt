@@ -4,13 +4,13 @@ ghost use Rattle.desk.specs.Desk.{desk};
 ghost use Rattle.writelog.specs.Write.{Writes};
 
 use desk::room::{recorded, room};
-use desk::state::{Outstanding, State, checked};
+use desk::state::{State, checked};
 use records::Record;
-use region::{Answer, Refusal};
+use region::Refusal;
 
 #[derive(Clone, Copy)]
 pub struct Written {
-    pub answer: Answer,
+    pub answer: Result<(), Refusal>,
     pub state: State,
 }
 
@@ -20,9 +20,9 @@ pub fn write(state: State, image: &[u8], log: &mut [u8], addr: usize, bytes: &[u
         (write_of addr bytes.now) result.answer
         (desk image.now result.state log.new) }
 {
-    let Outstanding::Bytes(used) = checked(state, image.len(), log.len()) else {
+    let Ok(used) = checked(state, image.len(), log.len()) else {
         return Written {
-            answer: Answer::Refused(Refusal::BadState),
+            answer: Err(Refusal::BadState),
             state,
         };
     };
@@ -32,10 +32,10 @@ pub fn write(state: State, image: &[u8], log: &mut [u8], addr: usize, bytes: &[u
     };
     let answer = room(image.len(), state, used, r);
     match answer {
-        Answer::Done => Written {
+        Ok(()) => Written {
             answer,
             state: recorded(state, log, used, addr, bytes),
         },
-        Answer::Refused(_) => Written { answer, state },
+        Err(_) => Written { answer, state },
     }
 }

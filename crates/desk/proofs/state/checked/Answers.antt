@@ -5,15 +5,17 @@ use mathlib.Core.Bool.{false≢true}
 use Rattle.region.specs.Limits.{writes_limit}
 use Rattle.region.proofs.Booleans.{and_when, and_unless}
 use Rattle.records.specs.declared.Record.{Record}
-use Rattle.desk.specs.State.{log_records, together, records_inside, check_report, outstanding_report}
+use Rattle.desk.specs.State.{log_records, together, records_inside, check_report}
 use Rattle.desk.specs.declared.state.State.{State}
-use Rattle.desk.specs.declared.state.Outstanding.TheVariants.{Bytes, Unsound}
 use Rattle.desk.proofs.Soundness.{SoundFor, facts_sound, facts_unsound, check_sound, check_unsound}
 use Rattle.desk.proofs.Records.{next, rest, together_more, inside_more, records_none}
 use Rattle.desk.proofs.state.checked.Goals as goal
+use Rattle.std.specs.Prelude.{Ok, Err, Result}
+use Rattle.region.specs.declared.Refusal.TheVariants.{BadState}
+use Rattle.region.specs.Answer.{counted_report}
 
 -- the answer where one of the facts fails
-unsound : (image : ℕ) (s : State) (log : ℕ) → (SoundFor image s log → ⊥) → outstanding_report Unsound ≡ check_report image s log
+unsound : (image : ℕ) (s : State) (log : ℕ) → (SoundFor image s log → ⊥) → counted_report (Err BadState) ≡ check_report image s log
 unsound image s log n = sym (check_unsound image s log (facts_unsound image s log n))
 
 pub returns-then-image-gt-IMAGE_LIMIT : goal.returns-then-image-gt-IMAGE_LIMIT
@@ -77,6 +79,6 @@ returns c =
       inside = l.invariant.2 ∙ ap (records_inside a.image) none;
       room = omega arith;
     } in (
-      ap (λ (used : ℕ). outstanding_report (Bytes used)) all ∙ sym (check_sound a.image a.state a.log (facts_sound a.image a.state a.log s)),
+      ap (λ (used : ℕ). counted_report (Ok used)) all ∙ sym (check_sound a.image a.state a.log (facts_sound a.image a.state a.log s)),
       search rules,
     )
