@@ -12,6 +12,19 @@ use Rattle.desk.specs.State.{log_records, together, records_inside, no_record}
 use Rattle.records.specs.declared.Record.{Record}
 use Rattle.desk.specs.declared.state.State.{State}
 
+-- what each definition over records takes from the next one of a list
+module _ (rs : List Record) (i : ℕ) (h : i < length rs) where
+  first_and_rest : drop i rs ≡ get_or rs i no_record ∷ drop (i + 1) rs
+  first_and_rest = rw add-one (drop-cons rs i no_record h)
+
+  pub together_next : together (drop i rs) ≡ (get_or rs i no_record).len + together (drop (i + 1) rs)
+  unfolding together
+  together_next = ap together first_and_rest
+
+  pub inside_next : (L : ℕ) → records_inside L (drop i rs) ≡ (leb ((get_or rs i no_record).addr + (get_or rs i no_record).len) L && records_inside L (drop (i + 1) rs))
+  unfolding records_inside
+  inside_next L = ap (records_inside L) first_and_rest
+
 records_more : (st : State) (i : ℕ) → i < st.count → st.count ≤ length st.records
     → drop i (log_records st) ≡ get_or st.records i no_record ∷ drop (suc i) (log_records st)
 records_more st i h l =

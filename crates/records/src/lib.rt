@@ -12,6 +12,9 @@ pub struct Record {
     pub len: usize,
 }
 
+// What stands where there is no record.
+pub const NO_RECORD: Record = Record { addr: 0, len: 0 };
+
 // The words of a record, and of a log's records.
 pub const RECORD_WORDS: usize = 2;
 
