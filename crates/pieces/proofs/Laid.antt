@@ -1,22 +1,22 @@
 -- One write laid byte by byte. `lay keep s addr bytes` has the bytes of the write where `keep` says so: a whole write keeps every address
 -- (`update_is_lay`), a selective one those in selected chunks (by definition). A loop that has laid j bytes has `lay keep s addr (take j bytes)`,
 -- and one byte more is one store or none (`lay_kept`, `lay_lost`). Assumes nothing.
-use Prim.Native.Nat.{ℕ, suc, ◌+◌, ◌-◌, ◌≤◌, ◌<◌}
+use Prim.Native.Nat.{ℕ, zero, suc, ◌+◌, ◌-◌, ◌≤◌, ◌<◌}
 use native.Mathlib.Nat.{le_refl, add-sub_cancel_left, sub-zero}
+use native.Mathlib.Numerals.{add-one}
 use native.Mathlib.Decide.{dec_lt, ℕ_discrete}
 use native.Mathlib.Omega.{arith}
-use mathlib.Core.Path.{◌≡◌, sym, ap, subst, subst⁻¹, ◌∙◌}
+use mathlib.Core.Path.{◌≡◌, refl, sym, ap, subst, subst⁻¹, ◌∙◌}
 use mathlib.Core.Logic.{by_cases}
 use mathlib.Core.Bool.{Bool, true, false, cond, ◌&&◌, and-true}
 use mathlib.Core.List.{List, []}
 use lib.ListN.{length, get_or, take, drop, set, length-set, length-drop}
-use lib.Seq.{ext_get_or, get_or-take, get_or-drop, get_or-set_same, get_or-set_other, length-take-le}
+use Rattle.std.proofs.lemmas.List.Edits.{paste_more}
+use lib.Seq.{paste, paste-zero, take-length, ext_get_or, get_or-take, get_or-drop, get_or-set_same, get_or-set_other, length-take-le}
 use Rattle.region.specs.Tab.{tab, inside}
 use Rattle.region.proofs.Tab.{length_tab, get_or_tab, agree_tab, inside_in, inside_below, inside_above}
 use Rattle.region.specs.Pmemspec.{update_bytes, extract_bytes}
-
-unfoldable pub lay : (keep : ℕ → Bool) (s : List ℕ) (addr : ℕ) (bytes : List ℕ) → List ℕ
-lay keep s addr bytes = tab (λ i. cond (inside addr (length bytes) i && keep i) (get_or bytes (i - addr) 0) (get_or s i 0)) (length s)
+pub use Rattle.pieces.specs.Laid.{lay}
 
 -- a whole write keeps every address
 pub update_is_lay : (s : List ℕ) (addr : ℕ) (bytes : List ℕ) → update_bytes s addr bytes ≡ lay (λ i. true) s addr bytes
@@ -128,6 +128,21 @@ module _ (keep : ℕ → Bool) (s : List ℕ) (addr : ℕ) where
         subst⁻¹ (λ (n : ℕ). get_or (lay keep s addr (take (suc j) bytes)) n 0 ≡ get_or laid n 0) e
         (lay_new ∙ ap (λ (b : Bool). cond b (get_or bytes j 0) (get_or laid (addr + j) 0)) k))
         (λ ne. lay_other i g ne))
+
+-- bytes pasted into an image that has room for them are laid there
+pub paste_is_update : (s : List ℕ) (addr : ℕ) (bytes : List ℕ) → addr + length bytes ≤ length s → paste s addr bytes (length bytes) ≡ update_bytes s addr bytes
+paste_is_update s addr bytes fits =
+    first (length bytes) (le_refl (length bytes))
+    ∙ ap (lay (λ i. true) s addr) (take-length bytes)
+    ∙ sym (update_is_lay s addr bytes)
+  where
+    first : (j : ℕ) → j ≤ length bytes → paste s addr bytes j ≡ lay (λ i. true) s addr (take j bytes)
+    first zero h = sym (paste-zero s addr bytes) ∙ sym (lay_none (λ i. true) s addr)
+    first (suc j) h =
+        ap (paste s addr bytes) (sym (add-one j))
+        ∙ sym (paste_more s addr bytes j 0 (omega arith) (omega arith))
+        ∙ ap (λ (t : List ℕ). set t (addr + j) (get_or bytes j 0)) (first j (omega arith))
+        ∙ sym (lay_kept (λ i. true) s addr bytes j (omega arith) (omega arith) refl)
 
 -- an image laid over another of its length takes its place
 pub update_whole : (s bytes : List ℕ) → length s ≡ length bytes → update_bytes s 0 bytes ≡ bytes

@@ -1,56 +1,59 @@
 // One write laid over an image in place.
-ghost use Rattle.std.specs.Prelude.{◌≡◌, ◌+◌, ◌≤◌, length};
+ghost use Rattle.std.specs.Prelude.{◌≡◌, ◌+◌, ◌≤◌, ◌<◌, ℕ, Bool, length};
 ghost use Rattle.region.specs.Limits.{const_persistence_chunk_size, points_limit};
 ghost use Rattle.region.specs.Pmemspec.{update_bytes};
 ghost use Rattle.pieces.specs.AsyncSpec.{write_of, size_to_chunks};
 ghost use Rattle.pieces.specs.Choice.{touched};
 ghost use Rattle.pieces.specs.Rows.{row_bytes};
-ghost use Rattle.pieces.specs.Laid.{laid_by_row, laid_by_choice};
+ghost use Rattle.pieces.specs.Laid.{lay, Tells, laid_by_row, laid_by_choice};
 
+use crate::Write;
 use crate::rows::row_bit;
 use region::CHUNK_SIZE;
 
 // The whole write: `apply_write`.
-pub fn lay(work: &mut [u8], addr: usize, bytes: &[u8])
-    requires { addr + length bytes.now ≤ length work.old }
-    ensures { work.new ≡ update_bytes work.old addr bytes.now }
+pub fn lay(work: &mut [u8], write: Write)
+    requires { write.addr + length write.bytes.now ≤ length work.old }
+    ensures { work.new ≡ update_bytes work.old write.entry.addr write.entry.bytes.now }
 {
-    let mut j = 0;
-    while j < bytes.len() {
-        work[addr + j] = bytes[j];
-        j += 1;
+    let Write { addr, bytes } = write;
+    let end = addr + bytes.len();
+    work[addr..end].copy_from_slice(bytes);
+}
+
+// The bytes at the addresses that `keeps` says.
+fn lay_where<F: Fn(usize) -> bool>(work: &mut [u8], write: Write, keeps: F)
+    requires lies { write.addr + length write.bytes.now ≤ length work.old }
+    requires told { (i : ℕ) → write.addr ≤ i → i < write.addr + length write.bytes.now → F.pre keeps i }
+    ensures { (keep : ℕ → Bool) → Tells (F.post keeps) keep (write_of write.entry.addr write.entry.bytes.now)
+        → work.new ≡ lay keep work.old write.entry.addr write.entry.bytes.now }
+{
+    for (j, byte) in write.bytes.iter().enumerate() {
+        let i = write.addr + j;
+        if keeps(i) {
+            work[i] = *byte;
+        }
     }
 }
 
 // Only the bytes in chunks that the row at `at` keeps: `apply_write_selective`.
-pub fn lay_selected(work: &mut [u8], addr: usize, bytes: &[u8], rows: &[u8], at: usize)
-    requires bytes_in_bounds { addr + length bytes.now ≤ length work.old }
-    requires work_in_bounds { at + row_bytes (size_to_chunks const_persistence_chunk_size (length work.old)) ≤ length rows.now }
+pub fn lay_selected(work: &mut [u8], write: Write, rows: &[u8], at: usize)
+    requires lies { write.addr + length write.bytes.now ≤ length work.old }
+    requires row_there { at + row_bytes (size_to_chunks const_persistence_chunk_size (length work.old)) ≤ length rows.now }
     ensures { work.new ≡ laid_by_row const_persistence_chunk_size work.old
-        (write_of addr bytes.now) rows.now at }
+        (write_of write.entry.addr write.entry.bytes.now) rows.now at }
 {
-    let mut j = 0;
-    while j < bytes.len() {
-        if row_bit(rows, at, (addr + j) / CHUNK_SIZE) {
-            work[addr + j] = bytes[j];
-        }
-        j += 1;
-    }
+    lay_where(work, write, |i| row_bit(rows, at, i / CHUNK_SIZE));
 }
 
 // Only the bytes in chunks that choice number m keeps, whose bit 0 is for the first chunk that the
 // write touches.
-pub fn lay_chosen(work: &mut [u8], addr: usize, bytes: &[u8], m: usize)
-    requires bytes_in_bounds { addr + length bytes.now ≤ length work.old }
-    requires bytes_bound { touched const_persistence_chunk_size addr (length bytes.now) ≤ points_limit }
-    ensures { work.new ≡ laid_by_choice const_persistence_chunk_size work.old (write_of addr bytes.now) m }
+pub fn lay_chosen(work: &mut [u8], write: Write, m: usize)
+    requires lies { write.addr + length write.bytes.now ≤ length work.old }
+    requires few_points { touched const_persistence_chunk_size write.addr (length write.bytes.now) ≤ points_limit }
+    ensures { work.new ≡ laid_by_choice const_persistence_chunk_size work.old
+        (write_of write.entry.addr write.entry.bytes.now) m }
 {
-    let first = addr / CHUNK_SIZE;
-    let mut j = 0;
-    while j < bytes.len() {
-        if (m >> ((addr + j) / CHUNK_SIZE - first)) % 2 == 1 {
-            work[addr + j] = bytes[j];
-        }
-        j += 1;
-    }
+    let first = write.addr / CHUNK_SIZE;
+    lay_where(work, write, |i| (m >> (i / CHUNK_SIZE - first)) % 2 == 1);
 }

@@ -5,6 +5,13 @@
 
 #![tactic(auto)]
 
+// A write as a call is handed it: its bytes, and the address of the first.
+#[derive(Clone, Copy)]
+pub struct Write<'a> {
+    pub addr: usize,
+    pub bytes: &'a [u8],
+}
+
 pub mod lay;
 pub mod points;
 pub mod rows;
