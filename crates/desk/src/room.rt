@@ -3,10 +3,11 @@ ghost use Rattle.std.specs.Prelude.{◌≡◌, ◌+◌, ◌≤◌, ◌<◌, leng
 ghost use Rattle.region.specs.Answer.{answer_number};
 ghost use Rattle.region.specs.Limits.{writes_limit, log_limit};
 ghost use Rattle.region.specs.Pmemspec.{update_bytes};
-ghost use Rattle.pieces.specs.AsyncSpec.{write_of};
+ghost use Rattle.pieces.specs.Handed.{handed};
 ghost use Rattle.desk.specs.State.{log_records, together, record_of, room_number, appended};
 
 use crate::state::{State, within};
+use pieces::Write;
 use pieces::lay::lay;
 use records::Record;
 use region::{LOG_LIMIT, Refusal, WRITES_LIMIT};
@@ -31,12 +32,13 @@ impl State {
     }
 
     // The write's own step: its bytes go behind the `used` outstanding ones, its record to index count.
-    pub fn push(&mut self, log: &mut [u8], used: usize, addr: usize, bytes: &[u8])
-        requires { (self.old.count < writes_limit) × (used + length bytes.now ≤ length log.old) }
-        ensures { (self.new ≡ appended self.old (record_of (write_of addr bytes.now))) ×
-            (log.new ≡ update_bytes log.old used bytes.now) }
+    pub fn push(&mut self, log: &mut [u8], used: usize, write: Write)
+        requires { (self.old.count < writes_limit) × (used + length (handed write).bytes ≤ length log.old) }
+        ensures { (self.new ≡ appended self.old (record_of (handed write.entry))) ×
+            (log.new ≡ update_bytes log.old used (handed write.entry).bytes) }
     {
-        lay(log, used, bytes);
+        let Write { addr, bytes } = write;
+        lay(log, Write { addr: used, bytes });
         self.with_record(Record {
             addr,
             len: bytes.len(),

@@ -5,3 +5,4 @@ pub mod Choice
 pub mod Rows
 pub mod Kept
 pub mod Laid
+pub mod Handed

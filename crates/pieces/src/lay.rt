@@ -2,7 +2,8 @@
 ghost use Rattle.std.specs.Prelude.{◌≡◌, ◌+◌, ◌≤◌, ◌<◌, ℕ, Bool, length};
 ghost use Rattle.region.specs.Limits.{const_persistence_chunk_size, points_limit};
 ghost use Rattle.region.specs.Pmemspec.{update_bytes};
-ghost use Rattle.pieces.specs.AsyncSpec.{write_of, size_to_chunks};
+ghost use Rattle.pieces.specs.AsyncSpec.{apply_write, size_to_chunks};
+ghost use Rattle.pieces.specs.Handed.{handed};
 ghost use Rattle.pieces.specs.Choice.{touched};
 ghost use Rattle.pieces.specs.Rows.{row_bytes};
 ghost use Rattle.pieces.specs.Laid.{lay, Tells, laid_by_row, laid_by_choice};
@@ -25,7 +26,7 @@ pub fn lay(work: &mut [u8], write: Write)
 fn lay_where<F: Fn(usize) -> bool>(work: &mut [u8], write: Write, keeps: F)
     requires lies { write.addr + length write.bytes.now ≤ length work.old }
     requires told { (i : ℕ) → write.addr ≤ i → i < write.addr + length write.bytes.now → F.pre keeps i }
-    ensures { (keep : ℕ → Bool) → Tells (F.post keeps) keep (write_of write.entry.addr write.entry.bytes.now)
+    ensures { (keep : ℕ → Bool) → Tells (F.post keeps) keep (handed write.entry)
         → work.new ≡ lay keep work.old write.entry.addr write.entry.bytes.now }
 {
     for (j, byte) in write.bytes.iter().enumerate() {
@@ -41,7 +42,7 @@ pub fn lay_selected(work: &mut [u8], write: Write, rows: &[u8], at: usize)
     requires lies { write.addr + length write.bytes.now ≤ length work.old }
     requires row_there { at + row_bytes (size_to_chunks const_persistence_chunk_size (length work.old)) ≤ length rows.now }
     ensures { work.new ≡ laid_by_row const_persistence_chunk_size work.old
-        (write_of write.entry.addr write.entry.bytes.now) rows.now at }
+        (handed write.entry) rows.now at }
 {
     lay_where(work, write, |i| row_bit(rows, at, i / CHUNK_SIZE));
 }
@@ -52,7 +53,7 @@ pub fn lay_chosen(work: &mut [u8], write: Write, m: usize)
     requires lies { write.addr + length write.bytes.now ≤ length work.old }
     requires few_points { touched const_persistence_chunk_size write.addr (length write.bytes.now) ≤ points_limit }
     ensures { work.new ≡ laid_by_choice const_persistence_chunk_size work.old
-        (write_of write.entry.addr write.entry.bytes.now) m }
+        (handed write.entry) m }
 {
     let first = write.addr / CHUNK_SIZE;
     lay_where(work, write, |i| (m >> (i / CHUNK_SIZE - first)) % 2 == 1);
