@@ -37,7 +37,8 @@ impl State {
     // The outstanding writes' records, oldest first. Old records past the count are nobody's business.
     pub fn outstanding(&self) -> &[Record]
         requires { self.now.count ≤ writes_limit }
-        ensures { result.now ≡ log_records self.now }
+        ensures records { result.now ≡ log_records self.now }
+        ensures counted { length result.now ≡ self.now.count }
     {
         &self.records[..self.count]
     }

@@ -6,7 +6,7 @@ use mathlib.Core.Path.{◌≡◌, refl, sym, ap, ap₂, subst, subst⁻¹, ◌�
 use mathlib.Core.Bool.{Bool, true, false}
 use mathlib.Core.List.{List, [], ◌∷◌}
 use lib.ListN.{length, get_or, take, drop, length-drop}
-use lib.Seq.{length-take-le}
+use lib.Seq.{get_or-take, length-take-le}
 use borrow.Author.Tests.{leb-true}
 use Rattle.region.specs.Limits.{const_persistence_chunk_size}
 use Rattle.region.proofs.Booleans.{both}
@@ -16,6 +16,7 @@ use Rattle.pieces.specs.Rows.{set_bits, row_bit, row_at, rows_at, row_bytes}
 use Rattle.pieces.specs.Kept.{kept, kept_of}
 use Rattle.pieces.proofs.ByteBits.{set_bits_agree, set_bits_le}
 use Rattle.pieces.proofs.RowBits.{one_less, row_at_bit, rows_at_more}
+use Rattle.records.specs.Record.{no_record}
 use Rattle.desk.specs.State.{log_records, together, records_inside, writes_of}
 use Rattle.walks.specs.Kept.{kept_records, KeptFrom}
 use Rattle.records.specs.declared.Record.{Record}
@@ -118,6 +119,14 @@ module _ (L : ℕ) (st : State) (table : List ℕ) (first : ℕ) where
                   pieces = omega (arith, c.pieces, one_more);
                 });
           }
+
+  -- the same of the log as a list
+  pub turn_of : {rs : List Record} {sum row i : ℕ} → rs ≡ log_records st → KeptFrom C L st (length table) first → Counting L st table first sum row i → i < length rs
+      → Turn L st table first sum row i (get_or rs i no_record)
+  turn_of {rs} {sum} {row} {i} all from c more =
+      let whole : length (log_records st) ≡ st.count = length-take-le st.count st.records (omega (arith, from.few, from.sized)) in
+      let inside : i < st.count = omega (arith, more, whole, ap length all) in
+      turn from c inside (ap (λ (l : List Record). get_or l i no_record) all ∙ get_or-take st.count st.records i no_record inside)
 
   pub count_ends : {sum row i : ℕ} → st.count ≤ i → Counting L st table first sum row i
       → sum ≡ kept_records C (log_records st) (rows_at (image_chunks L) st.count table first)

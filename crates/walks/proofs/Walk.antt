@@ -1,143 +1,80 @@
--- One step of a replay: what is known of the next record, and of those after it. Assumes nothing.
-use Prim.Native.Nat.{ℕ, suc, ◌+◌, ◌-◌, ◌*◌, ◌≤◌, ◌<◌}
-use native.Mathlib.Nat.{add-sub_cancel_left, min-le_left}
-use native.Mathlib.Numerals.{add-one}
+-- One step of a replay: what is known of the first record, and of those after it. Assumes nothing.
+use Prim.Native.Nat.{ℕ, suc, ◌+◌, ◌-◌, ◌*◌, ◌≤◌}
 use native.Mathlib.Omega.{arith}
-use mathlib.Core.Path.{◌≡◌, sym, ap, ap₂, ◌∙◌}
+use mathlib.Core.Path.{◌≡◌, refl, sym, ap, ap₂, ◌∙◌}
 use mathlib.Core.List.{List, [], ◌∷◌}
-use lib.ListN.{length, get_or, take, drop, length-take}
-use lib.Seq.{drop-cons, drop-drop}
+use lib.ListN.{length, take, drop}
 use borrow.Author.Tests.{leb-true}
-use Rattle.region.specs.Limits.{writes_limit}
 use Rattle.region.specs.Pmemspec.{update_bytes}
 use Rattle.region.proofs.Booleans.{both}
 use Rattle.pieces.specs.AsyncSpec.{Write, size_to_chunks, apply_write_selective, committed, flush_writes, flush_writes_selective}
 use Rattle.pieces.specs.Rows.{row_at, rows_at, row_bytes}
-use Rattle.pieces.proofs.RowBits.{one_less, rows_at_more}
-use Rattle.records.specs.Record.{no_record}
-use Rattle.records.specs.Words.{records_of, record_words}
+use Rattle.pieces.proofs.RowBits.{one_less}
 use Rattle.records.specs.declared.Record.{Record}
-use Rattle.records.proofs.ListWords.{records_back, length_record_words, length_records, record_at}
 use Rattle.desk.specs.State.{log_records, together, records_inside, writes_of, recorded_write}
 use Rattle.desk.specs.declared.state.State.{State}
 use Rattle.desk.proofs.Soundness.{SoundFor}
-use Rattle.walks.specs.Log.{records_left, Remaining, RowsRemaining, replayed_whole, replayed_by_rows}
+use Rattle.walks.specs.Log.{Remaining, RowsRemaining, replayed_whole, replayed_by_rows}
 
--- the part of the log buffer that a write's bytes are
-pub piece_is : (at n : ℕ) (log : List ℕ) → take (at + n - at) (drop at log) ≡ take n (drop at log)
-piece_is at n log = ap (λ (k : ℕ). take k (drop at log)) (add-sub_cancel_left at n)
+-- what is known of the first record
+pub record Step (L : ℕ) (r : Record) (rs : List Record) (log_length : ℕ) : Type 0 where
+  pub lies : r.addr + r.len ≤ L
+  pub has : r.len ≤ log_length
+  pub after : {left : ℕ} → left + r.len ≡ log_length → Remaining L rs left
 
-pub piece_le : (at n : ℕ) (log : List ℕ) → length (take (at + n - at) (drop at log)) ≤ n
-piece_le at n log = rw (add-sub_cancel_left at n, length-take n (drop at log)) (min-le_left n (length (drop at log)))
-
--- the record that stands at `next` in the words
-abbrev pub record_here : (words : List ℕ) (next : ℕ) → Record
-record_here words next = record { addr = get_or words (2 * next) 0; len = get_or words (2 * next + 1) 0 }
-
-first_and_rest : (rs : List Record) (next left : ℕ) → next < length rs → take (suc left) (drop next rs) ≡ get_or rs next no_record ∷ take left (drop (next + 1) rs)
-first_and_rest rs next left h = ap (take (suc left)) (drop-cons rs next no_record h) ∙ ap (λ (k : ℕ). get_or rs next no_record ∷ take left (drop k rs)) (sym (add-one next))
-
-module _ (words : List ℕ) (sized : length words ≡ 2 * writes_limit) where
-  pub left_more : (next left : ℕ) → next < writes_limit → 0 < left → records_left words next left ≡ record_here words next ∷ records_left words (next + 1) (left - 1)
-  left_more next left h some =
-      let all : length (records_of words) ≡ writes_limit = length_records writes_limit words sized in
-      let more : left ≡ suc (left - 1) = omega arith in
-      ap (λ (n : ℕ). take n (drop next (records_of words))) more
-      ∙ first_and_rest (records_of words) next (left - 1) (omega (arith, all))
-      ∙ ap (λ (r : Record). r ∷ records_left words (next + 1) (left - 1)) (sym (record_at writes_limit words next sized))
-
--- what is known of the next record
-pub record Step (L : ℕ) (words : List ℕ) (next left log_length at : ℕ) : Type 0 where
-  pub index : next < writes_limit
-  pub lies : (record_here words next).addr + (record_here words next).len ≤ L
-  pub has : at + (record_here words next).len ≤ log_length
-  pub after : Remaining L words (next + 1) (left - 1) log_length (at + (record_here words next).len)
-  pub records : records_left words next left ≡ record_here words next ∷ records_left words (next + 1) (left - 1)
-
-pub step : {L : ℕ} {words : List ℕ} {next left n at : ℕ} → Remaining L words next left n at → 0 < left → Step L words next left n at
+pub step : {L : ℕ} {all : List Record} {r : Record} {rs : List Record} {n : ℕ} → all ≡ r ∷ rs → Remaining L all n → Step L r rs n
 unfolding together records_inside
-step {L} {words} {next} {left} {n} {at} remain some =
-    let index : next < writes_limit = omega (arith, remain.there) in
-    let records = left_more words remain.sized next left index some in
-    let r = record_here words next in
-    let sum : together (records_left words next left) ≡ r.len + together (records_left words (next + 1) (left - 1)) = ap together records in
-    let in_both = both _ _ (sym (ap (records_inside L) records) ∙ remain.inside) in
+step {L} {all} {r} {rs} {n} first remain =
+    let in_both = both _ _ (sym (ap (records_inside L) first) ∙ remain.inside) in
+    let sum : together all ≡ r.len + together rs = ap together first in
     record {
-      index = index;
       lies = leb-true (r.addr + r.len) L in_both.0;
       has = omega (arith, sum, remain.room);
-      after = record {
-        sized = remain.sized;
-        there = omega (arith, remain.there);
-        short = remain.short;
-        buffer = remain.buffer;
-        inside = in_both.1;
-        room = omega (arith, sum, remain.room);
-      };
-      records = records;
+      after = λ {left} e. record { inside = in_both.1; room = omega (arith, sum, remain.room, e) };
     }
 
--- its write, and those of the records after it
-pub writes_more : {L : ℕ} {words : List ℕ} {next left n at : ℕ} → Step L words next left n at → let r = record_here words next in (log : List ℕ)
-    → writes_of (records_left words next left) (drop at log)
-    ≡ recorded_write r (take r.len (drop at log)) ∷ writes_of (records_left words (next + 1) (left - 1)) (drop (at + r.len) log)
-unfolding writes_of
-writes_more {words = words} {next = next} {left = left} {at = at} s log =
-    let r = record_here words next in
-    ap (λ (rs : List Record). writes_of rs (drop at log)) s.records
-    ∙ ap (λ (bytes : List ℕ). recorded_write r (take r.len (drop at log)) ∷ writes_of (records_left words (next + 1) (left - 1)) bytes)
-    (drop-drop r.len at log)
+-- the whole log of a sound state
+pub all_remain : {L : ℕ} {st : State} {n : ℕ} → SoundFor L st n → Remaining L (log_records st) n
+all_remain s = record { inside = s.inside; room = omega (arith, s.room, s.buffer) }
 
--- nothing is left
-pub no_more : (words : List ℕ) (next left : ℕ) → left ≡ 0 → (log : List ℕ) → writes_of (records_left words next left) log ≡ []
-unfolding writes_of
-no_more words next left none log = ap (λ (n : ℕ). writes_of (take n (drop next (records_of words))) log) none
+-- the row of the first record, and those after it
+module _ {C L width all table_length row : ℕ} (left : ℕ) (one : left + 1 ≡ all) (rows : RowsRemaining C L width all table_length row) where
+  first_row : all * width ≡ width + left * width
+  first_row = one_less all width (omega arith) ∙ ap (λ (n : ℕ). width + n * width) (omega arith)
 
--- a step of each replay: what the writes after the next one give over the image with that one laid is what they all give
-module _ {L : ℕ} {words : List ℕ} {next left n at : ℕ} (s : Step L words next left n at) (log work : List ℕ) {laid : List ℕ} where
-  pub whole_step : let r = record_here words next in laid ≡ update_bytes work r.addr (take (at + r.len - at) (drop at log))
-      → replayed_whole laid (records_left words (next + 1) (left - 1)) log (at + r.len) ≡ replayed_whole work (records_left words next left) log at
-  unfolding flush_writes
-  whole_step e =
-      let r = record_here words next in
-      ap (λ (w : List ℕ). replayed_whole w (records_left words (next + 1) (left - 1)) log (at + r.len)) (e ∙ ap (update_bytes work r.addr) (piece_is at r.len log))
-      ∙ sym (ap (λ (ws : List Write). committed (flush_writes work ws)) (writes_more s log))
+  pub row_there : row + width ≤ table_length
+  row_there = omega (arith, rows.there, first_row)
 
-  pub selected_step : (C : ℕ) (rows : List ℕ) (row width : ℕ) → let K = size_to_chunks C (length work) in let r = record_here words next in
-      0 < left → width ≡ row_bytes K → length laid ≡ length work
-      → laid ≡ apply_write_selective C work (recorded_write r (take (at + r.len - at) (drop at log))) (row_at K rows row)
-      → replayed_by_rows C laid (records_left words (next + 1) (left - 1)) log (at + r.len) (left - 1) rows (row + width)
-      ≡ replayed_by_rows C work (records_left words next left) log at left rows row
-  unfolding flush_writes_selective
-  selected_step C rows row width some wide same e =
+  pub rows_after : RowsRemaining C L width left table_length (row + width)
+  rows_after = record { wide = rows.wide; there = omega (arith, rows.there, first_row) }
+
+-- what each replay leaves where no record is left
+pub none_whole : (rs : List Record) (work log : List ℕ) → length rs ≡ 0 → work ≡ replayed_whole work rs log
+unfolding writes_of flush_writes
+none_whole [] work log e = refl
+none_whole (r ∷ rs) work log e = absurd (omega arith)
+
+pub none_selected : (C : ℕ) (rs : List Record) (work log table : List ℕ) (row : ℕ) → length rs ≡ 0 → work ≡ replayed_by_rows C work rs log table row
+unfolding writes_of flush_writes_selective
+none_selected C [] work log table row e = refl
+none_selected C (r ∷ rs) work log table row e = absurd (omega arith)
+
+-- What the writes after the first give over the image with that one laid is what they all give.
+module _ {all : List Record} {r : Record} {rs : List Record} (first : all ≡ r ∷ rs) (log work : List ℕ) {laid bytes behind : List ℕ}
+  (own : bytes ≡ take r.len log) (others : behind ≡ drop r.len log) where
+  pub next_whole : laid ≡ update_bytes work r.addr bytes → replayed_whole laid rs behind ≡ replayed_whole work all log
+  unfolding writes_of flush_writes
+  next_whole e =
+      ap₂ (λ (w rest : List ℕ). replayed_whole w rs rest) (e ∙ ap (update_bytes work r.addr) own) others
+      ∙ sym (ap (λ (l : List Record). replayed_whole work l log) first)
+
+  pub next_selected : (C : ℕ) (table : List ℕ) (row width : ℕ) → let K = size_to_chunks C (length work) in
+      width ≡ row_bytes K → length laid ≡ length work → laid ≡ apply_write_selective C work (recorded_write r bytes) (row_at K table row)
+      → replayed_by_rows C laid rs behind table (row + width) ≡ replayed_by_rows C work all log table row
+  unfolding writes_of flush_writes_selective rows_at
+  next_selected C table row width wide same e =
       let K = size_to_chunks C (length work) in
-      let r = record_here words next in
-      let writes = writes_of (records_left words (next + 1) (left - 1)) (drop (at + r.len) log) in
-      ap₂ (λ (n w : ℕ). flush_writes_selective C laid writes (rows_at (size_to_chunks C n) (left - 1) rows (row + w))) same wide
-      ∙ ap (λ (x : List ℕ). flush_writes_selective C x writes (rows_at K (left - 1) rows (row + row_bytes K)))
-      (e ∙ ap (λ (bytes : List ℕ). apply_write_selective C work (recorded_write r bytes) (row_at K rows row)) (piece_is at r.len log))
-      ∙ sym (ap₂ (flush_writes_selective C work) (writes_more s log) (rows_at_more K left rows row some))
-
--- the row of the next record, and those after it
-pub row_there : {C L width left table_length row : ℕ} → RowsRemaining C L width left table_length row → 0 < left → row + width ≤ table_length
-row_there {width = width} {left = left} rows some = omega (arith, rows.there, one_less left width some)
-
-pub rows_after : {C L width left table_length row : ℕ} → RowsRemaining C L width left table_length row → 0 < left
-    → RowsRemaining C L width (left - 1) table_length (row + width)
-rows_after {width = width} {left = left} rows some =
-    record { wide = rows.wide; there = omega (arith, rows.there, one_less left width some); counted = rows.counted }
-
--- the whole log of a sound state, by the words of its records
-pub all_left : (st : State) → records_left (record_words st.records) 0 st.count ≡ log_records st
-all_left st = ap (take st.count) (records_back st.records)
-
-pub all_remain : {L : ℕ} {st : State} {n : ℕ} → length st.records ≡ writes_limit → SoundFor L st n → Remaining L (record_words st.records) 0 st.count n 0
-all_remain {L} {st} {n} sized s =
-    record {
-      sized = omega (arith, length_record_words st.records, sized);
-      there = omega (arith, s.few);
-      short = s.short;
-      buffer = omega (arith, s.buffer);
-      inside = ap (records_inside L) (all_left st) ∙ s.inside;
-      room = omega (arith, ap together (all_left st), s.room, s.buffer);
-    }
+      ap₂ (λ (n w : ℕ). flush_writes_selective C laid (writes_of rs behind) (rows_at (size_to_chunks C n) (length rs) table (row + w))) same wide
+      ∙ ap₂ (λ (x rest : List ℕ). flush_writes_selective C x (writes_of rs rest) (rows_at K (length rs) table (row + row_bytes K)))
+      (e ∙ ap (λ (b : List ℕ). apply_write_selective C work (recorded_write r b) (row_at K table row)) own) others
+        ∙ sym (ap (λ (l : List Record). replayed_by_rows C work l log table row) first)

@@ -10,20 +10,16 @@ use region::CHUNK_SIZE;
 use region::chunks::size_to_chunks;
 
 // The pieces that the rows from `row` on keep: the set bits among each write's touched chunks, summed.
-pub fn kept(state: State, size: usize, rows: &[u8], row: usize) -> usize
-    requires { KeptFrom const_persistence_chunk_size size state (length rows.now) row }
-    ensures { result ≡ kept_by_table const_persistence_chunk_size size state rows.now row }
+pub fn kept(state: &State, size: usize, rows: &[u8], row: usize) -> usize
+    requires { KeptFrom const_persistence_chunk_size size state.now (length rows.now) row }
+    ensures { result ≡ kept_by_table const_persistence_chunk_size size state.now rows.now row }
 {
     let width = row_bytes(size_to_chunks(size));
-    let count = state.count;
     let mut sum = 0;
     let mut place = row;
-    let mut i = 0;
-    while i < count {
-        let r = state.records[i];
+    for r in state.outstanding() {
         sum += set_bits(rows, place, r.addr / CHUNK_SIZE, touched(r.addr, r.len));
         place += width;
-        i += 1;
     }
     sum
 }

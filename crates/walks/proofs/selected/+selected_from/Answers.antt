@@ -1,46 +1,33 @@
--- As `whole_from`, with the rows that keep the remaining writes' chunks. Assumes nothing.
-use Rattle.std.proofs.Common.{◌+◌, ◌*◌, List, length, get_or, sym, ap, ◌∙◌, arith}
-use native.Mathlib.Nat.{pos_of_ne-zero}
-use denote.Ref.{at_last}
+-- As `whole_from`, with the rows that keep the writes' chunks. Assumes nothing.
+use Rattle.std.proofs.Common.{◌+◌, ◌*◌, arith, ◌∙◌}
 use Rattle.region.specs.Limits.{const_persistence_chunk_size}
-use Rattle.pieces.specs.AsyncSpec.{Write, size_to_chunks, flush_writes_selective}
-use Rattle.pieces.specs.Rows.{rows_at}
-use Rattle.walks.proofs.Walk.{step, piece_le, no_more, selected_step, rows_after}
+use Rattle.walks.proofs.Walk.{step, none_selected, next_selected, row_there, rows_after}
 use Rattle.walks.proofs.selected.+selected_from.Goals as goal
 
-pub returns-then-left-eq0 : goal.returns-then-left-eq0
-unfolding flush_writes_selective
-returns-then-left-eq0 t c =
-    let a = c.args in
-    let C = const_persistence_chunk_size in
-    let rows = rows_at (size_to_chunks C (length a.work.now.now)) a.left a.rows.now.now a.row in
-    ap (λ (ws : List Write). at_last a.work.now (flush_writes_selective C a.work.now.now ws rows))
-    (sym (no_more a.words.now a.next a.left c.if-left-eq0.true _))
+pub returns-in_default : goal.returns-in_default
+returns-in_default t c =
+    none_selected const_persistence_chunk_size c.args.records.now c.args.work.now c.args.log.now c.args.rows.now c.args.row c.in_default.ensures.cases
 
-pub overflow_add-end : goal.overflow_add-end
-overflow_add-end t c = let s = step c.requires.remaining (pos_of_ne-zero c.if-left-eq0.false) in omega (arith, s.has, c.requires.remaining.buffer)
+pub split_at-requires : goal.split_at-requires
+split_at-requires t c = (step c.in-Some.ensures.cases.0 c.requires.remaining).has
 
-pub slice_bounds-lay_selected-end-2 : goal.slice_bounds-lay_selected-end-2
-slice_bounds-lay_selected-end-2 t c = let s = step c.requires.remaining (pos_of_ne-zero c.if-left-eq0.false) in omega (arith, s.has)
+pub lay_selected-requires-clause-lies : goal.lay_selected-requires-clause-lies
+lay_selected-requires-clause-lies t c =
+    let s = step c.in-Some.ensures.cases.0 c.requires.remaining in omega (arith, s.lies, c.split_at.ensures.front_len)
 
-pub lay_selected-requires-clause-bytes_in_bounds : goal.lay_selected-requires-clause-bytes_in_bounds
-lay_selected-requires-clause-bytes_in_bounds t c =
-    let a = c.args in
-    let s = step c.requires.remaining (pos_of_ne-zero c.if-left-eq0.false) in
-    omega (arith, s.lies, piece_le a.at (get_or a.words.now (2 * a.next + 1) 0) a.log.now.now)
+pub lay_selected-requires-clause-row_there : goal.lay_selected-requires-clause-row_there
+lay_selected-requires-clause-row_there t c =
+    omega (arith, row_there _ c.in-Some.ensures.cases.1 c.requires.rows_remaining, c.requires.rows_remaining.wide)
 
 pub selected_from-requires : goal.selected_from-requires
 selected_from-requires t c =
-    let some = pos_of_ne-zero c.if-left-eq0.false in
-    let s = step c.requires.remaining some in
-    (omega (arith, c.decreases, some), rw c.lay_selected.auto.work (s.after, rows_after c.requires.rows_remaining some))
+    let s = step c.in-Some.ensures.cases.0 c.requires.remaining in (
+      omega (arith, c.decreases, c.in-Some.ensures.cases.1),
+      rw c.lay_selected.auto.work (s.after c.split_at.ensures.back_len, rows_after _ c.in-Some.ensures.cases.1 c.requires.rows_remaining),
+    )
 
 pub returns : goal.returns
 returns t c =
-    let a = c.args in
-    let some = pos_of_ne-zero c.if-left-eq0.false in
-    let s = step c.requires.remaining some in
     c.selected_from.ensures
-    ∙ ap (at_last a.work.now)
-    (selected_step s a.log.now.now a.work.now.now const_persistence_chunk_size a.rows.now.now a.row a.width some c.requires.rows_remaining.wide
-    c.lay_selected.auto.work c.lay_selected.ensures)
+    ∙ next_selected c.in-Some.ensures.cases.0 c.args.log.now c.args.work.now c.split_at.ensures.front c.split_at.ensures.back const_persistence_chunk_size
+    c.args.rows.now c.args.row c.args.width c.requires.rows_remaining.wide c.lay_selected.auto.work c.lay_selected.ensures

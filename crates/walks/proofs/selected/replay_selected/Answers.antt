@@ -1,29 +1,28 @@
--- The records' words say the log, and what was lent comes back. Assumes nothing.
-use Rattle.std.proofs.Common.{◌≡◌, ℕ, List, length, ap, rules, ◌∙◌}
-use mathlib.Core.Path.{subst⁻¹}
+-- The outstanding records are the log. Assumes nothing.
+use Rattle.std.proofs.Common.{◌∙◌, ℕ, List, ap, ap₂, length}
 use Rattle.region.specs.Limits.{const_persistence_chunk_size}
-use Rattle.records.specs.declared.Record.{Record}
-use Rattle.pieces.specs.AsyncSpec.{flush_selective}
+use Rattle.pieces.specs.AsyncSpec.{size_to_chunks, flush_writes_selective}
 use Rattle.pieces.specs.Rows.{rows_at}
-use Rattle.desk.specs.Desk.{desk, view, chunks}
+use Rattle.records.specs.declared.Record.{Record}
+use Rattle.desk.specs.State.{writes_of}
 use Rattle.desk.proofs.Soundness.{sound_facts}
-use Rattle.walks.specs.Log.{Remaining, records_left, replayed_by_rows}
-use Rattle.walks.proofs.Walk.{all_left, all_remain}
+use Rattle.walks.proofs.Walk.{all_remain}
 use Rattle.walks.proofs.selected.replay_selected.Goals as goal
 
-pub selected_lent-requires-clause-remaining : goal.selected_lent-requires-clause-remaining
-selected_lent-requires-clause-remaining c =
-    let a = c.args in
-    subst⁻¹ (λ (ws : List ℕ). Remaining (length a.work.now) ws 0 a.state.count (length a.log.now) 0) c.record_words-words.ensures.0
-    (all_remain c.record_words-words.ensures.1 (sound_facts _ a.state _ c.requires.log_value))
+pub outstanding-requires : goal.outstanding-requires
+outstanding-requires c = (sound_facts _ _ _ c.requires.sound).few
+
+pub selected_from-requires-clause-remaining : goal.selected_from-requires-clause-remaining
+selected_from-requires-clause-remaining c = rw c.outstanding.ensures.records (all_remain (sound_facts _ c.args.state.now _ c.requires.sound))
+
+pub selected_from-requires-clause-rows_remaining : goal.selected_from-requires-clause-rows_remaining
+selected_from-requires-clause-rows_remaining c = rw c.outstanding.ensures.counted (record { wide = c.requires.row_width; there = c.requires.rows_there })
 
 pub returns : goal.returns
 returns c =
     let a = c.args in
-    let d = desk a.work.now a.state a.log.now in
     let C = const_persistence_chunk_size in
-    let left : replayed_by_rows C a.work.now (records_left c.record_words-words.result 0 a.state.count) a.log.now 0 a.state.count a.rows.now a.row
-    ≡ flush_selective C (view d) (rows_at (chunks d) a.state.count a.rows.now a.row) =
-    ap (λ (rs : List Record). replayed_by_rows C a.work.now rs a.log.now 0 a.state.count a.rows.now a.row)
-    (ap (λ (ws : List ℕ). records_left ws 0 a.state.count) c.record_words-words.ensures.0 ∙ all_left a.state) in
-    rw (← left) (search rules)
+    let K = size_to_chunks C (length a.work.now) in
+    c.selected_from.ensures
+    ∙ ap₂ (λ (rs : List Record) (n : ℕ). flush_writes_selective C a.work.now (writes_of rs a.log.now) (rows_at K n a.rows.now a.row)) c.outstanding.ensures.records
+    c.outstanding.ensures.counted

@@ -1,37 +1,22 @@
--- What the remaining writes, laid over what is there now, give is the answer; each step reads the next one's record and lays its bytes. Assumes nothing.
-use Rattle.std.proofs.Common.{◌+◌, ◌*◌, List, get_or, sym, ap, ◌∙◌, arith}
-use native.Mathlib.Nat.{pos_of_ne-zero}
-use denote.Ref.{at_last}
-use Rattle.pieces.specs.AsyncSpec.{Write, committed, flush_writes}
-use Rattle.walks.proofs.Walk.{step, piece_le, no_more, whole_step}
+-- What the later writes give over what is there once the first is laid is the answer. Assumes nothing.
+use Rattle.std.proofs.Common.{◌+◌, arith, ◌∙◌}
+use Rattle.walks.proofs.Walk.{step, none_whole, next_whole}
 use Rattle.walks.proofs.whole.+whole_from.Goals as goal
 
-pub returns-then-left-eq0 : goal.returns-then-left-eq0
-unfolding flush_writes
-returns-then-left-eq0 t c =
-    let a = c.args in
-    ap (λ (ws : List Write). at_last a.work.now (committed (flush_writes a.work.now.now ws))) (sym (no_more a.words.now a.next a.left c.if-left-eq0.true _))
+pub returns-in_default : goal.returns-in_default
+returns-in_default t c = none_whole c.args.records.now c.args.work.now c.args.log.now c.in_default.ensures.cases
 
-pub overflow_add-end : goal.overflow_add-end
-overflow_add-end t c = let s = step c.requires (pos_of_ne-zero c.if-left-eq0.false) in omega (arith, s.has, c.requires.buffer)
-
-pub slice_bounds-lay-end-2 : goal.slice_bounds-lay-end-2
-slice_bounds-lay-end-2 t c = let s = step c.requires (pos_of_ne-zero c.if-left-eq0.false) in omega (arith, s.has)
+pub split_at-requires : goal.split_at-requires
+split_at-requires t c = (step c.in-Some.ensures.cases.0 c.requires).has
 
 pub lay-requires : goal.lay-requires
-lay-requires t c =
-    let a = c.args in
-    let s = step c.requires (pos_of_ne-zero c.if-left-eq0.false) in
-    omega (arith, s.lies, piece_le a.at (get_or a.words.now (2 * a.next + 1) 0) a.log.now.now)
+lay-requires t c = let s = step c.in-Some.ensures.cases.0 c.requires in omega (arith, s.lies, c.split_at.ensures.front_len)
 
 pub whole_from-requires : goal.whole_from-requires
 whole_from-requires t c =
-    let some = pos_of_ne-zero c.if-left-eq0.false in
-    let s = step c.requires some in
-    (omega (arith, c.decreases, some), rw c.lay.auto.work s.after)
+    let s = step c.in-Some.ensures.cases.0 c.requires in
+    (omega (arith, c.decreases, c.in-Some.ensures.cases.1), rw c.lay.auto.work (s.after c.split_at.ensures.back_len))
 
 pub returns : goal.returns
 returns t c =
-    let a = c.args in
-    let s = step c.requires (pos_of_ne-zero c.if-left-eq0.false) in
-    c.whole_from.ensures ∙ ap (at_last a.work.now) (whole_step s a.log.now.now a.work.now.now c.lay.ensures)
+    c.whole_from.ensures ∙ next_whole c.in-Some.ensures.cases.0 c.args.log.now c.args.work.now c.split_at.ensures.front c.split_at.ensures.back c.lay.ensures

@@ -52,7 +52,7 @@ returns-then-not-within c =
     let a = c.args in
     let l = c.loop-r in
     let rs = c.outstanding-r-items.result.now in
-    let all : rs ≡ log_records a.self.now = c.outstanding-r-items.ensures in (
+    let all : rs ≡ log_records a.self.now = c.outstanding-r-items.ensures.records in (
       unsound a.image a.self.now a.log (λ s.
       elim c.then-not-within.branch [
         | then-not-within-via-then-not-within w ↦
@@ -81,7 +81,7 @@ returns c =
     let a = c.args in
     let l = c.loop-r in
     let rs = c.outstanding-r-items.result.now in
-    let all : rs ≡ log_records a.self.now = c.outstanding-r-items.ensures in
+    let all : rs ≡ log_records a.self.now = c.outstanding-r-items.ensures.records in
     let none : drop l.r-index rs ≡ [] = drop_of_length-le rs (omega arith) in
     let used : l.used ≡ together (log_records a.self.now) =
     sym (add-zero l.used) ∙ ap (λ (left : List Record). l.used + together left) (sym none) ∙ l.invariant.1 ∙ ap together all in
