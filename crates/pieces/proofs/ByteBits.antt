@@ -1,6 +1,6 @@
 -- The set bits of a row, counted a byte at a time. Assumes nothing.
 use Prim.Native.Nat.{ℕ, zero, suc, ◌+◌, ◌-◌, ◌*◌, ◌/◌, ◌%◌, ◌^◌, ◌≤◌, ◌<◌}
-use native.Mathlib.Nat.{le_refl, mod-lt, add-zero, zero-add, add_assoc, suc-add, add-suc, zero-lt-suc, mod-one, one-mul, not-suc-le-zero, le_of_suc-le-suc}
+use native.Mathlib.Nat.{add-sub_of_le, le_refl, mod-lt, add-zero, zero-add, add_assoc, suc-add, add-suc, zero-lt-suc, mod-one, one-mul, not-suc-le-zero, le_of_suc-le-suc}
 use native.Mathlib.Numerals.{add-one, one-add}
 use native.Mathlib.Decide.{ℕ_discrete}
 use native.Mathlib.Omega.{arith}
@@ -105,6 +105,16 @@ pub run_in_row : (table : List ℕ) (at c n : ℕ) → c % 8 + n ≤ 8
 run_in_row table at c n h =
     run_in_byte (row_bit table at) (get_or table (at + c / 8) 0) c (c % 8) n h
     (λ k g. ap₂ (λ (i j : ℕ). eqb (get_or table (at + i) 0 / 2 ^ j % 2) 1) (omega arith) (omega arith))
+
+-- the first bits of a run, where they stay in one byte, and those after them
+pub first_in_byte : (table : List ℕ) (at c n m : ℕ) → m ≤ n → c % 8 + m ≤ 8
+    → set_bits (row_bit table at) c n
+    ≡ ones (get_or table (at + c / 8) 0 / 2 ^ (8 - c % 8 - m) % 2 ^ m) + set_bits (row_bit table at) (c + m) (n - m)
+first_in_byte table at c n m less fits =
+    let b : ℕ → Bool = row_bit table at in
+    ap (set_bits b c) (sym (add-sub_of_le less))
+    ∙ set_bits_add b c m (n - m)
+    ∙ ap (λ (x : ℕ). x + set_bits b (c + m) (n - m)) (run_in_row table at c m fits)
 
 -- a shift of 1 by at most 8 is a power
 pub one_shifted : (k : ℕ) → k ≤ 8 → (1 * 2 ^ k) % 2 ^ 32 ≡ 2 ^ k

@@ -9,11 +9,7 @@ use bits::BYTE_BITS;
 pub fn row_bytes(chunks: usize) -> usize
     ensures { result ≡ row_bytes chunks }
 {
-    if chunks % BYTE_BITS == 0 {
-        chunks / BYTE_BITS
-    } else {
-        chunks / BYTE_BITS + 1
-    }
+    chunks.div_ceil(BYTE_BITS)
 }
 
 // Bit c of the row at `at`.
@@ -24,14 +20,14 @@ pub(crate) fn row_bit(rows: &[u8], at: usize, c: usize) -> bool
     (rows[at + c / BYTE_BITS] >> (BYTE_BITS - 1 - c % BYTE_BITS)) % 2 == 1
 }
 
-// How many of the n bits of a byte from bit l on, counted from the top, are set: the byte is masked
-// to them, and the ones are counted.
-fn ones_among(byte: u8, l: usize, n: usize) -> usize
-    requires { l + n ≤ 8 }
-    ensures { result ≡ ones (byte / 2 ^ (8 - l - n) % 2 ^ n) }
+// How many of the n bits of a byte that come after the first `skipped`, counted from the top, are
+// set: the byte is masked to them, and the ones are counted.
+fn ones_among(byte: u8, skipped: usize, n: usize) -> usize
+    requires { skipped + n ≤ 8 }
+    ensures { result ≡ ones (byte / 2 ^ (8 - skipped - n) % 2 ^ n) }
 {
-    let mask = (1u32 << (BYTE_BITS - l)) - (1u32 << (BYTE_BITS - l - n));
-    u32::count_ones(byte as u32 & mask) as usize
+    let mask = (1u32 << (BYTE_BITS - skipped)) - (1u32 << (BYTE_BITS - skipped - n));
+    (u32::from(byte) & mask).count_ones() as usize
 }
 
 // How many of the n bits from bit `from` of the row at `at` are set, a byte at a time.
@@ -44,7 +40,7 @@ pub fn set_bits(rows: &[u8], at: usize, from: usize, n: usize) -> usize
     let mut left = n;
     while 0 < left {
         let room = BYTE_BITS - c % BYTE_BITS;
-        let here = if left < room { left } else { room };
+        let here = left.min(room);
         sum += ones_among(rows[at + c / BYTE_BITS], c % BYTE_BITS, here);
         c += here;
         left -= here;
@@ -66,14 +62,5 @@ pub fn rows_filled(rows: &[u8], from: usize, n: usize, chunks: usize) -> bool
     ensures { result ≡ rows_filled chunks n rows.now from }
 {
     let width = row_bytes(chunks);
-    let mut at = from;
-    let mut left = n;
-    while 0 < left {
-        if !row_filled(rows, at, chunks) {
-            return false;
-        }
-        at += width;
-        left -= 1;
-    }
-    true
+    (0..n).all(|i| row_filled(rows, from + i * width, chunks))
 }

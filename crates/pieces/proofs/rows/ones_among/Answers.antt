@@ -8,9 +8,9 @@ use Rattle.pieces.proofs.rows.ones_among.Goals as goal
 pub overflow_sub-mask-4 : goal.overflow_sub-mask-4
 overflow_sub-mask-4 c =
     let a = c.args in
-    let low : 8 - a.l - a.n ≤ 8 = omega arith in
-    let high : 8 - a.l ≤ 8 = omega arith in
-    rw (one_shifted (8 - a.l - a.n) low, one_shifted (8 - a.l) high) (pow_mono (omega arith))
+    let low : 8 - a.skipped - a.n ≤ 8 = omega arith in
+    let high : 8 - a.skipped ≤ 8 = omega arith in
+    rw (one_shifted (8 - a.skipped - a.n) low, one_shifted (8 - a.skipped) high) (pow_mono (omega arith))
 
 pub returns : goal.returns
-returns c = masked c.args.byte c.args.l c.args.n c.requires
+returns c = rw c.from.ensures (masked c.args.byte c.args.skipped c.args.n c.requires)

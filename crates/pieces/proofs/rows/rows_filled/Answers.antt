@@ -1,36 +1,17 @@
--- All rows are filled if this one is and those after it are. Assumes nothing.
-use Rattle.std.proofs.Common.{◌≡◌, ◌+◌, ◌-◌, ℕ, Bool, true, false, ◌&&◌, refl, sym, ap, ◌∙◌, arith}
-use mathlib.Core.Path.{ap₂}
-use Rattle.pieces.specs.Rows.{row_bytes, rows_filled}
-use Rattle.pieces.proofs.RowBits.{one_less, rows_filled_more}
+-- All rows are filled if each is. Assumes nothing.
+use Rattle.std.proofs.Common.{◌≡◌, ◌+◌, ◌*◌, ◌∙◌, ap, arith, rules}
+use borrow.Author.Tests.{tests}
+use Rattle.std.proofs.lemmas.Iterator.{YieldsList-from_range}
+use Rattle.std.proofs.lemmas.Iterator.Search.{all_from_yields_List}
+use Rattle.pieces.specs.Rows.{row_bytes, row_filled, rows_filled}
+use Rattle.pieces.proofs.RowBits.{each_row_filled}
 use Rattle.pieces.proofs.rows.rows_filled.Goals as goal
 
-pub loop-left-init : goal.loop-left-init
-loop-left-init c = (c.requires.1, refl)
-
-pub returns-then-not-row_filled : goal.returns-then-not-row_filled
-returns-then-not-row_filled c =
-    let l = c.loop-left in
-    let a = c.args in
-    let bad : c.row_filled.result ≡ false = cc in
-    sym (l.invariant.1 ∙ rows_filled_more a.chunks l.left a.rows.now l.at c.loop-left-test.true
-    ∙ ap (λ (b : Bool). b && rows_filled a.chunks (l.left - 1) a.rows.now (l.at + row_bytes a.chunks)) (sym c.row_filled.ensures ∙ bad))
-
-pub loop-left-preserved : goal.loop-left-preserved
-loop-left-preserved c =
-    let l = c.loop-left in
-    let a = c.args in
-    let good : c.row_filled.result ≡ true = cc in
-    let row_off = one_less l.left (row_bytes a.chunks) c.loop-left-test.true in (
-      omega (arith, row_off, c.row_bytes-width.ensures),
-      l.invariant.1 ∙ rows_filled_more a.chunks l.left a.rows.now l.at c.loop-left-test.true
-          ∙ ap₂ (λ (b : Bool) (w : ℕ). b && rows_filled a.chunks (l.left - 1) a.rows.now (l.at + w)) (sym c.row_filled.ensures ∙ good) (sym c.row_bytes-width.ensures),
-    )
-
 pub returns : goal.returns
-unfolding rows_filled
 returns c =
-    let l = c.loop-left in
     let a = c.args in
-    let none : l.left ≡ 0 = omega arith in
-    sym (l.invariant.1 ∙ ap (λ (n : ℕ). rows_filled a.chunks n a.rows.now l.at) none)
+    let first : a.from + 0 * row_bytes a.chunks ≡ a.from = omega arith in
+    all_from_yields_List (λ i. row_filled a.chunks a.rows.now (a.from + i * row_bytes a.chunks)) _ _ c.all.result c.all.ensures.ran
+    (YieldsList-from_range 0 a.n a.n (cc) (omega arith)) (λ x b q k. search (rules, tests))
+    ∙ each_row_filled a.chunks a.n a.rows.now a.from 0
+    ∙ ap (rows_filled a.chunks a.n a.rows.now) first
