@@ -13,7 +13,7 @@ use mathlib.Core.List.{List, []}
 use lib.ListN.{length, get_or, take, drop, set, length-set, length-drop}
 use Rattle.std.proofs.lemmas.List.Edits.{paste_more}
 use lib.Seq.{paste, paste-zero, take-length, ext_get_or, get_or-take, get_or-drop, get_or-set_same, get_or-set_other, length-take-le}
-use Rattle.region.specs.Tab.{tab, inside}
+use Rattle.region.specs.Tab.{inside}
 use Rattle.region.proofs.Tab.{length_tab, get_or_tab, agree_tab, inside_in, inside_below, inside_above}
 use Rattle.region.specs.Pmemspec.{update_bytes, extract_bytes}
 pub use Rattle.pieces.specs.Laid.{lay}

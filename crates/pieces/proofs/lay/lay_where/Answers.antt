@@ -1,6 +1,6 @@
 -- A turn lays one byte or none, as the test answers for its address. Assumes nothing.
-use Rattle.std.proofs.Common.{◌≡◌, ◌+◌, ℕ, List, get_or, take, set, sym, ap, ◌∙◌, arith, add-one}
-use Rattle.pieces.proofs.Laid.{lay, lay_none, lay_kept, lay_lost}
+use Rattle.std.proofs.Common.{◌≡◌, ◌+◌, ℕ, List, get_or, set, sym, ap, ◌∙◌, arith, add-one}
+use Rattle.pieces.proofs.Laid.{lay_none, lay_kept, lay_lost}
 use Rattle.pieces.proofs.lay.lay_where.Goals as goal
 use Rattle.pieces.proofs.lay.lay_where.Goals.{then-keeps, else-keeps}
 
