@@ -7,14 +7,16 @@ use mathlib.Core.List.{[], ◌∷◌}
 use lib.ListN.{length, get_or}
 use borrow.Author.Tests.{le-leb, leb-true, eq-eqb, eqb-true}
 use Rattle.region.specs.Limits.{image_limit, writes_limit, log_limit}
+use Rattle.std.specs.Prelude.{Ok, Err}
 use Rattle.region.specs.Answer.{Report, Counted, counted_report}
+use Rattle.region.specs.declared.Refusal.{Refusal}
+use Rattle.region.specs.declared.Refusal.TheVariants.{BadState}
+use Rattle.region.proofs.AnswerLaws.{refusal_not_done, refusals_by_number}
 use Rattle.region.proofs.Booleans.{cond_when, cond_unless, both, both_true}
 use Rattle.desk.specs.State.{log_records, together, records_inside, sound_for, check_report}
 use Rattle.desk.specs.Desk.{Desk}
 use Rattle.records.specs.declared.Record.{Record}
 use Rattle.desk.specs.declared.state.State.{State}
-use Rattle.std.specs.Prelude.{Ok, Err, Result}
-use Rattle.region.specs.declared.Refusal.TheVariants.{BadState}
 
 pub record SoundFor (L : ℕ) (st : State) (log_length : ℕ) : Type 0 where
   pub short : L ≤ image_limit
@@ -87,9 +89,13 @@ module _ (L : ℕ) (st : State) (log_length : ℕ) where
         go true s = record { good = s; facts = sound_facts s; counted = ap (λ (x : Report). get_or x.values 0 0) (here ∙ check_sound s) }
         go false s = absurd (omega (arith, ap (λ (x : Report). x.number) (here ∙ check_unsound s)))
 
-    pub told_unsound : r ≡ (Err BadState) → sound_for L st log_length ≡ false
-    told_unsound is = go (sound_for L st log_length) refl
-      where
-        go : (t : Bool) → sound_for L st log_length ≡ t → sound_for L st log_length ≡ false
-        go true s = absurd (omega (arith, ap (λ (x : Report). x.number) (sym (ap counted_report is) ∙ told ∙ check_sound s)))
-        go false s = s
+    module _ {why : Refusal} (is : r ≡ Err why) where
+      pub told_unsound : sound_for L st log_length ≡ false
+      told_unsound = go (sound_for L st log_length) refl
+        where
+          go : (t : Bool) → sound_for L st log_length ≡ t → sound_for L st log_length ≡ false
+          go true s = absurd (omega (arith, refusal_not_done why, ap (λ (x : Report). x.number) (sym (ap counted_report is) ∙ told ∙ check_sound s)))
+          go false s = s
+
+      pub told_bad_state : why ≡ BadState
+      told_bad_state = refusals_by_number why BadState (ap (λ (x : Report). x.number) (sym (ap counted_report is) ∙ told ∙ check_unsound told_unsound))

@@ -31,15 +31,15 @@ denial_is_no_refusal = refusal_not_8
 
 -- the numbers and values of document 01 tell the verdicts apart
 pub verdicts_by_report : (a b : Judged) → verdict_report a ≡ verdict_report b → a ≡ b
-verdicts_by_report (Ok (Admitted n)) (Ok (Admitted k)) e = ap Admitted (one_value (same_values e))
+verdicts_by_report (Ok (Admitted n)) (Ok (Admitted k)) e = ap (λ (k : ℕ). Ok (Admitted k)) (one_value (same_values e))
 verdicts_by_report (Ok (Admitted n)) (Ok (Denied m)) e = absurd (suc-ne-zero 7 (sym (same_number e)))
 verdicts_by_report (Ok (Admitted n)) (Err why) e = absurd (nothing_reported (sym (same_values e)))
 verdicts_by_report (Ok (Denied m)) (Ok (Admitted n)) e = absurd (suc-ne-zero 7 (same_number e))
-verdicts_by_report (Ok (Denied m)) (Ok (Denied k)) e = ap Denied (one_value (same_values e))
+verdicts_by_report (Ok (Denied m)) (Ok (Denied k)) e = ap (λ (m : ℕ). Ok (Denied m)) (one_value (same_values e))
 verdicts_by_report (Ok (Denied m)) (Err why) e = absurd (nothing_reported (sym (same_values e)))
 verdicts_by_report (Err why) (Ok (Admitted n)) e = absurd (nothing_reported (same_values e))
 verdicts_by_report (Err why) (Ok (Denied m)) e = absurd (nothing_reported (same_values e))
-verdicts_by_report (Err why) (Err reason) e = ap Refused (refusals_by_number why reason (same_number e))
+verdicts_by_report (Err why) (Err reason) e = ap Err (refusals_by_number why reason (same_number e))
 
 -- the rule of a sheet looks at the image after alone
 rule_alone : (sheet : List ℕ) → ◌≡◌ {A = Test} (λ before after. obeys sheet before after) (after_alone (allows sheet))
