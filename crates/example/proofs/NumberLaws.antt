@@ -180,7 +180,7 @@ module _ (d : Desk) (sheet work : List ℕ) (addr val0 val1 rounds : ℕ) (f : F
         rw (opened_fresh o e)
         (record { idle = record { sized = refl; empty = refl }; short = f.short; buffer = f.buffer; same = f.same; good = good; says = says })
 
-    pub run_goes : answer ≡ done → {done : RunAnswer} {image' log' work' : List ℕ}
-        → Repeats d.image d.log work addr val0 val1 rounds done image' log' work'
-        → Runs d.image d.log work addr val0 val1 rounds done image' log' work'
+    pub run_goes : answer ≡ done → {told : RunAnswer} {image' log' work' : List ℕ}
+        → Repeats d.image d.log work addr val0 val1 rounds told image' log' work'
+        → Runs d.image d.log work addr val0 val1 rounds told image' log' work'
     run_goes e r = runs_done (answers_so e) r
