@@ -6,8 +6,8 @@ use mathlib.Core.Bool.{Bool, true, false}
 use mathlib.Core.List.{[], ◌∷◌}
 use lib.ListN.{length, get_or}
 use borrow.Author.Tests.{le-leb, leb-true, eq-eqb, eqb-true}
-use Rattle.region.specs.Limits.{image_limit, writes_limit, log_limit}
 use Rattle.std.specs.Prelude.{Ok, Err}
+use Rattle.region.specs.Limits.{image_limit, writes_limit, log_limit}
 use Rattle.region.specs.Answer.{Report, Counted, counted_report}
 use Rattle.region.specs.declared.Refusal.{Refusal}
 use Rattle.region.specs.declared.Refusal.TheVariants.{BadState}

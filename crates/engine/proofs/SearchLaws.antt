@@ -9,6 +9,7 @@ use mathlib.Core.Bool.{Bool, true, false}
 use mathlib.Core.List.{List}
 use lib.Dec.{lit<}
 use lib.Pow.{shl_exact, pow_pos}
+use Rattle.std.specs.Prelude.{None, Some}
 use Rattle.region.specs.Limits.{points_limit}
 use Rattle.pieces.specs.AsyncSpec.{Write, write}
 use Rattle.cuts.specs.Number.{choice_points}
@@ -21,7 +22,6 @@ use Rattle.sheet.proofs.Laws.{before_unseen}
 use Rattle.desk.specs.Desk.{Desk, chunk_size, view}
 use Rattle.engine.specs.Search.{Ready, Searches, trial_image, sheet_finding, sheet_image}
 use Rattle.engine.proofs.PointLaws.{points_with_a_write}
-use Rattle.std.specs.Prelude.{None, Some}
 
 -- the numbers of few points fit a word
 pub numbers_exact : (n : ℕ) → n ≤ points_limit → 1 * 2 ^ n % 2 ^ 64 ≡ 2 ^ n

@@ -8,6 +8,7 @@ use mathlib.Core.List.{List}
 use lib.Dec.{leb, eqb}
 use lib.ListN.{length, set}
 use borrow.Author.Tests.{le-leb, lt-leb, leb-true, eq-eqb, ne_eqb, eqb-true}
+use Rattle.std.specs.Prelude.{Err}
 use Rattle.region.specs.Limits.{image_limit, log_limit}
 use Rattle.region.specs.Answer.{unless, answer_number, refusal_number, Answer, done}
 use Rattle.region.specs.declared.Refusal.{Refusal}
@@ -19,12 +20,11 @@ use Rattle.gate.specs.Opening.{open_number, Opens}
 use Rattle.gate.proofs.OpeningLaws.{open_good, open_broken}
 use Rattle.gate.proofs.Gives.{opens_means, opened_fresh}
 use Rattle.rounds.specs.Valid.{app_valid}
+use Rattle.rounds.specs.declared.RunError.TheVariants.{Refused}
 use Rattle.example.specs.Setup.{setup_number, SetsUp}
 use Rattle.rounds.specs.Answer.{run_answer_number, RunAnswer}
 use Rattle.rounds.specs.Steps.{Under}
 use Rattle.example.specs.Run.{rounds_limit, fits_number, run_number, Runs, Repeats}
-use Rattle.rounds.specs.declared.RunError.TheVariants.{Refused}
-use Rattle.std.specs.Prelude.{Err}
 
 -- setup
 module _ (image : List ℕ) (addr val0 : ℕ) where

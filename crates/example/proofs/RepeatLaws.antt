@@ -5,12 +5,12 @@ use mathlib.Core.Path.{◌≡◌, refl, sym, ap, ◌∙◌}
 use mathlib.Core.List.{List}
 use lib.ListN.{length, set, length-set}
 use lib.Seq.{set-set}
+use Rattle.region.specs.Answer.{done}
 use Rattle.desk.specs.Desk.{Desk}
 use Rattle.rounds.specs.Steps.{Goes}
 use Rattle.rounds.proofs.StepLaws.{pair_over_pair}
-use Rattle.example.specs.Run.{if_any_round, log_after_round, Repeats}
 use Rattle.rounds.specs.Answer.{RunAnswer}
-use Rattle.region.specs.Answer.{done}
+use Rattle.example.specs.Run.{if_any_round, log_after_round, Repeats}
 
 module _ {image log work : List ℕ} {addr val0 val1 : ℕ} where
   pub repeats_none : Repeats image log work addr val0 val1 0 done image log work

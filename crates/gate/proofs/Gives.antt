@@ -6,6 +6,7 @@ use mathlib.Core.Logic.{◌↔◌}
 use mathlib.Core.Bool.{true}
 use mathlib.Core.List.{List}
 use lib.ListN.{length}
+use Rattle.std.specs.Prelude.{Err, Ok}
 use Rattle.region.specs.Limits.{writes_limit}
 use Rattle.region.specs.Answer.{answer_number, Answer, done}
 use Rattle.region.specs.declared.Refusal.{Refusal}
@@ -24,7 +25,6 @@ use Rattle.gate.specs.Meaning.{Fits, Openable, CouldBeLeft, CouldLeave}
 use Rattle.gate.proofs.OpeningLaws.{opens_exactly_if}
 use Rattle.gate.proofs.JudgementLaws.{fits_room, admitted_number, not_admitted_number, refused_work}
 use Rattle.gate.proofs.Meaning.{judge_means}
-use Rattle.std.specs.Prelude.{Err, Ok}
 
 -- what a session keeps: the desk is one that every call accepts, and every image that a cut could leave obeys the sheet
 pub record Holds (d : Desk) (sheet : List ℕ) : Type 0 where

@@ -10,6 +10,7 @@ use mathlib.Core.List.{List, [], ◌∷◌}
 use lib.Dec.{leb, eqb}
 use lib.ListN.{length}
 use borrow.Author.Tests.{le-leb, lt-leb, leb-true, eq-eqb, ne_eqb, eqb-true}
+use Rattle.std.specs.Prelude.{Option, Err, Ok, None, Some}
 use Rattle.region.specs.Limits.{points_limit}
 use Rattle.region.specs.Answer.{Report, unless, refusal_number, if_done, or_else}
 use Rattle.region.specs.declared.Refusal.{Refusal}
@@ -27,7 +28,6 @@ use Rattle.gate.specs.declared.Verdict.TheVariants.{Admitted, Denied}
 use Rattle.gate.specs.Meaning.{Fits}
 use Rattle.gate.specs.Judgement.{denied_number, verdict_report, finding_report, gate_points, judge_refusal, judge_report, judge_number, Judged}
 use Rattle.gate.specs.Judgement.{Judges, Gates, Fitting, Weighs}
-use Rattle.std.specs.Prelude.{Option, Err, Ok, None, Some}
 
 -- two reports that are the same
 pub same_number : {r s : Report} → r ≡ s → r.number ≡ s.number

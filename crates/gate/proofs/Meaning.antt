@@ -6,6 +6,7 @@ use mathlib.Core.Logic.{◌↔◌}
 use mathlib.Core.Bool.{true}
 use mathlib.Core.List.{List}
 use lib.Dec.{lit<}
+use Rattle.std.specs.Prelude.{Err, Ok}
 use Rattle.region.specs.Answer.{refusal_number}
 use Rattle.region.specs.declared.Refusal.{Refusal}
 use Rattle.region.proofs.AnswerLaws.{refusals_by_number, refusal_not_8, changed}
@@ -23,7 +24,6 @@ use Rattle.gate.specs.Judgement.{denied_number, verdict_report, finding_report, 
 use Rattle.gate.specs.Meaning.{Fits, MeansBy, Means, CouldLeave}
 use Rattle.gate.proofs.JudgementLaws.{same_number, same_values, nothing_reported, one_value, tried_exactly_if, judges_tried}
 use Rattle.gate.proofs.JudgementLaws.{admitted_fits, denied_fits, gates_admitted}
-use Rattle.std.specs.Prelude.{Err, Ok}
 
 -- 8 is a denial alone
 pub denial_is_no_refusal : (why : Refusal) → refusal_number why ≡ denied_number → ⊥

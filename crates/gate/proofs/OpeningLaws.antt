@@ -7,6 +7,7 @@ use mathlib.Core.List.{List}
 use lib.Dec.{leb, eqb}
 use lib.ListN.{length}
 use borrow.Author.Tests.{le-leb, lt-leb, leb-true, eq-eqb, ne_eqb, eqb-true}
+use Rattle.std.specs.Prelude.{Err}
 use Rattle.region.specs.Limits.{image_limit, log_limit}
 use Rattle.region.specs.Answer.{unless, refusal_number, done}
 use Rattle.region.specs.declared.Refusal.{Refusal}
@@ -20,7 +21,6 @@ use Rattle.desk.specs.Desk.{Desk, desk, opened_desk}
 use Rattle.desk.specs.declared.state.State.{State}
 use Rattle.gate.specs.Meaning.{Openable}
 use Rattle.gate.specs.Opening.{open_number, Opens}
-use Rattle.std.specs.Prelude.{Err}
 
 -- the test of 1
 abbrev first : Desk → Bool

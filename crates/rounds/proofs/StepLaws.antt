@@ -9,10 +9,12 @@ use lib.ListN.{length, get_or, take, set, length-set, length-append}
 use lib.Seq.{set-set}
 use borrow.Author.Tests.{ltb-true, eq-eqb}
 use lib.Dec.{ltb, eqb}
+use Rattle.std.specs.Prelude.{Ok}
 use Rattle.region.specs.Limits.{writes_limit, points_limit}
 use Rattle.region.specs.Pmemspec.{update_bytes}
 use Rattle.region.proofs.Booleans.{both, both_true}
 use Rattle.region.proofs.AnswerLaws.{changed}
+use Rattle.region.specs.Answer.{done}
 use Rattle.pieces.specs.AsyncSpec.{AsyncView, Write, write, readable}
 use Rattle.pieces.specs.Choice.{points}
 use Rattle.sheet.specs.Sheet.{obeys, allows}
@@ -34,8 +36,6 @@ use Rattle.rounds.specs.Answer.{run_answer_number, RunAnswer}
 use Rattle.rounds.proofs.AnswerNumbers.{run_answers_by_number}
 use Rattle.rounds.proofs.ByteLog.{byte_write, byte_laid, byte_writes, byte_log, byte_writes_last, byte_points, last_read}
 use Rattle.rounds.proofs.ByteLog.{all_of, left_valid, cut_leaves_a_value}
-use Rattle.std.specs.Prelude.{Ok}
-use Rattle.region.specs.Answer.{done}
 
 -- the log holds these values, written at addr
 pub record Logged (d : Desk) (addr : ℕ) (us : List ℕ) : Type 0 where

@@ -12,6 +12,7 @@ use borrow.Author.Tests.{eq-eqb}
 use Rattle.region.specs.Limits.{writes_limit}
 use Rattle.region.proofs.AnswerLaws.{done_changed, changed}
 use Rattle.region.proofs.Booleans.{both_true}
+use Rattle.region.specs.Answer.{Answer, Counted}
 use Rattle.pieces.specs.AsyncSpec.{Write, flush_selective}
 use Rattle.pieces.specs.Kept.{kept}
 use Rattle.pieces.specs.Rows.{row_bytes, rows_at, rows_filled, rows_right}
@@ -31,7 +32,6 @@ use Rattle.tape.specs.Write.{tape_write_number, TapeWrites}
 use Rattle.tape.specs.Flush.{tape_flush_number, TapeFlushes}
 use Rattle.tape.specs.Cut.{tape_cut_number, TapeCuts}
 use Rattle.tape.proofs.NumberLaws.{plainly_done, ending_done}
-use Rattle.region.specs.Answer.{Answer, Counted}
 
 -- the epoch's rows as a row table of its own
 abbrev pub epoch_table : (K n : ℕ) (tape : List ℕ) (start : ℕ) → List ℕ

@@ -4,6 +4,7 @@ use mathlib.Core.Path.{◌≡◌, refl, sym, ap, ◌∙◌}
 use mathlib.Core.Bool.{Bool, true, false}
 use mathlib.Core.List.{List}
 use lib.ListN.{length}
+use Rattle.std.specs.Prelude.{Err, Ok}
 use Rattle.region.specs.Answer.{answer_number, if_done, Answer, done}
 use Rattle.region.specs.Limits.{writes_limit}
 use Rattle.region.specs.declared.Refusal.{Refusal}
@@ -22,7 +23,6 @@ use Rattle.tape.specs.Ending.{tape_ending_number, epoch_ended, Settles, Ends}
 use Rattle.tape.specs.Flush.{TapeFlushes}
 use Rattle.tape.specs.Cut.{TapeCuts}
 use Rattle.tape.proofs.NumberLaws.{ending_done}
-use Rattle.std.specs.Prelude.{Err, Ok}
 
 -- what a done call changes may be said otherwise, where that is the same for a done one
 done_agrees {ℓ} : {A : Type ℓ} (n : ℕ) {after after' : A} (before : A) → (n ≡ 0 → after ≡ after') → if_done n after before ≡ if_done n after' before

@@ -9,6 +9,7 @@ use lib.ListN.{length}
 use Rattle.region.specs.Limits.{writes_limit}
 use Rattle.region.specs.View.{CanResultFromWrite, FlushPredicted}
 use Rattle.region.proofs.AnswerLaws.{changed}
+use Rattle.region.specs.Answer.{Answer, Counted}
 use Rattle.pieces.specs.AsyncSpec.{Write, AsyncView, flush, write, CanCrashAs}
 use Rattle.cuts.specs.Bits.{view_chunks}
 use Rattle.cuts.proofs.Flush.{flush_leaves_the_read_image}
@@ -24,7 +25,6 @@ use Rattle.tape.specs.Flush.{tape_flush_number, TapeFlushes}
 use Rattle.tape.specs.Cut.{tape_cut_number, TapeCuts}
 use Rattle.tape.proofs.NumberLaws.{Ending, tape_write_done, ending_done}
 use Rattle.tape.proofs.PromiseLaws.{flushed_is_predicted}
-use Rattle.region.specs.Answer.{Answer, Counted}
 
 abbrev C : TapeDesk → ℕ
 C t = chunk_size t.memory

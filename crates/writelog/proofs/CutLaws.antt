@@ -3,6 +3,7 @@ use Prim.Native.Nat.{ℕ}
 use mathlib.Core.Path.{◌≡◌, refl, sym, ap, ◌∙◌}
 use mathlib.Core.Bool.{Bool, true, false}
 use mathlib.Core.List.{List, [], ◌∷◌}
+use Rattle.std.specs.Prelude.{Ok, Err}
 use Rattle.region.specs.Answer.{unless, refusal_number, counted_report}
 use Rattle.region.specs.declared.Refusal.{Refusal}
 use Rattle.region.proofs.AnswerLaws.{done_changed, refused_left}
@@ -10,7 +11,6 @@ use Rattle.region.proofs.Booleans.{cond_when, cond_unless}
 use Rattle.pieces.specs.Rows.{rows_right}
 use Rattle.desk.specs.Desk.{Desk, chunks, sound, settled_desk}
 use Rattle.writelog.specs.Cut.{cut_told, image_by_rows, kept_by_rows, cut_number, Cuts}
-use Rattle.std.specs.Prelude.{Ok, Err}
 
 pub kept_told : {k kept n : ℕ} → k ≡ kept → n ≡ 0 → counted_report (Ok k) ≡ cut_told kept n
 kept_told {kept = kept} e none = ap (λ (k : ℕ). cut_told k 0) e ∙ ap (cut_told kept) (sym none)

@@ -1,14 +1,14 @@
 -- The promise of a done flush, and of a refused one. Assumes nothing.
 use mathlib.Core.Path.{◌≡◌, sym, ◌∙◌}
 use mathlib.Core.Bool.{true, false}
+use Rattle.std.specs.Prelude.{Err}
 use Rattle.region.specs.declared.Refusal.TheVariants.{BadState}
 use Rattle.region.proofs.AnswerLaws.{done_changed, refused_left}
 use Rattle.region.proofs.Booleans.{cond_when, cond_unless}
+use Rattle.region.specs.Answer.{done}
 use Rattle.pieces.specs.AsyncSpec.{readable}
 use Rattle.desk.specs.Desk.{Desk, view, sound, settled_desk}
 use Rattle.writelog.specs.Flush.{flush_number, Flushes}
-use Rattle.region.specs.Answer.{done}
-use Rattle.std.specs.Prelude.{Err}
 
 module _ (d : Desk) where
   pub flush_sound : sound d ≡ true → flush_number d ≡ 0

@@ -1,6 +1,7 @@
 -- Which of a write's tests gives its number, and the promise of a done write and of a refused one. Assumes nothing.
 use mathlib.Core.Path.{◌≡◌, sym, ap, ◌∙◌}
 use mathlib.Core.Bool.{true, false}
+use Rattle.std.specs.Prelude.{Err}
 use Rattle.region.specs.Answer.{answer_number, Answer, done}
 use Rattle.region.specs.declared.Refusal.{Refusal}
 use Rattle.region.proofs.AnswerLaws.{done_changed, refused_left}
@@ -8,7 +9,6 @@ use Rattle.region.proofs.Booleans.{cond_when, cond_unless}
 use Rattle.pieces.specs.AsyncSpec.{Write}
 use Rattle.desk.specs.Desk.{Desk, sound, room_for, with_write}
 use Rattle.writelog.specs.Write.{write_number, Writes}
-use Rattle.std.specs.Prelude.{Err}
 
 module _ (d : Desk) (w : Write) where
   pub write_unsound : sound d ≡ false → write_number d w ≡ 1
