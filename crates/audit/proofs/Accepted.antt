@@ -5,6 +5,7 @@ use mathlib.Core.Path.{◌≡◌, refl, sym, ap, subst⁻¹, ◌∙◌}
 use mathlib.Core.Bool.{true}
 use mathlib.Core.List.{List}
 use lib.ListN.{length, set, length-set}
+use Rattle.std.specs.Prelude.{Err, Ok}
 use Rattle.region.specs.Limits.{writes_limit}
 use Rattle.region.specs.Answer.{if_done, Answer, done, Counted}
 use Rattle.region.proofs.AnswerLaws.{changed}
@@ -33,10 +34,9 @@ use Rattle.tape.specs.Write.{tape_write_number, TapeWrites}
 use Rattle.tape.specs.Flush.{tape_flush_number, TapeFlushes}
 use Rattle.tape.specs.Cut.{tape_cut_number, TapeCuts}
 use Rattle.tape.proofs.NumberLaws.{tape_write_done}
+use Rattle.rounds.specs.Answer.{RunAnswer}
 use Rattle.example.specs.Setup.{setup_number, SetsUp}
 use Rattle.example.specs.Run.{run_number, if_any_round, Runs}
-use Rattle.rounds.specs.Answer.{RunAnswer}
-use Rattle.std.specs.Prelude.{Err, Ok}
 
 -- refusal 1 doesn't apply, and the state has its 32 records
 pub record Accepted (d : Desk) : Type 0 where

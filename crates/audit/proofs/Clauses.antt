@@ -8,11 +8,13 @@ use mathlib.Core.List.{List, [], ◌∷◌}
 use lib.Dec.{leb}
 use lib.ListN.{length, get_or, drop, length-take}
 use borrow.Author.Tests.{leb-true}
+use Rattle.std.specs.Prelude.{Err, Ok}
 use Rattle.region.specs.Limits.{writes_limit}
 use Rattle.region.specs.Pmemspec.{extract_bytes}
 use Rattle.region.specs.View.{PersistentMemoryRegionView}
 use Rattle.region.proofs.AnswerLaws.{refusal_not_done, changed, left, passed}
 use Rattle.region.proofs.Booleans.{both}
+use Rattle.region.specs.Answer.{Answer, done}
 use Rattle.pieces.specs.AsyncSpec.{Write, no_write, AsyncView, len, WritesValid, Within, write, flush, readable, CanCrashAs, CanCrash}
 use Rattle.pieces.proofs.Laid.{update_reads_back}
 use Rattle.cuts.specs.Prophecy.{prophecy}
@@ -43,8 +45,6 @@ use Rattle.tape.specs.Memory.{TapeDesk}
 use Rattle.tape.specs.Flush.{TapeFlushes}
 use Rattle.tape.proofs.NumberLaws.{ending_done}
 use Rattle.tape.proofs.Steps.{step_of_flush}
-use Rattle.region.specs.Answer.{Answer, done}
-use Rattle.std.specs.Prelude.{Err, Ok}
 
 -- what a tape foretells of a desk: the original's view
 abbrev pub foretold_on : (tape : List ℕ) → TapeDesk → PersistentMemoryRegionView

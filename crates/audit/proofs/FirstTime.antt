@@ -8,6 +8,7 @@ use mathlib.Core.Path.{◌≡◌, refl, sym, ap, ap₂, subst⁻¹, ◌∙◌}
 use mathlib.Core.List.{List, []}
 use lib.ListN.{length}
 use Rattle.region.proofs.AnswerLaws.{done_changed, changed}
+use Rattle.region.specs.Answer.{done}
 use Rattle.bits.specs.Bits.{byte_bits}
 use Rattle.pieces.specs.AsyncSpec.{AsyncView}
 use Rattle.cuts.proofs.Flush.{flush_leaves_the_read_image}
@@ -38,7 +39,6 @@ use Rattle.linked.specs.Calls.{Calls}
 use Rattle.linked.proofs.Runs.{linked_session}
 use Rattle.linked.proofs.Linking.{run_is_calls}
 pub use Rattle.audit.proofs.Round.{pair_of, round_of}
-use Rattle.region.specs.Answer.{done}
 
 -- the history of the rounds
 pub rounds_of : (addr val0 val1 rounds : ℕ) → History

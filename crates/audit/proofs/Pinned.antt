@@ -5,8 +5,10 @@ use native.Mathlib.Omega.{arith}
 use mathlib.Core.Path.{◌≡◌, refl, sym, ap}
 use mathlib.Core.List.{List}
 use denote.Ref.{MutBor}
+use Rattle.std.specs.Prelude.{Ok, Err, Result}
 use Rattle.region.specs.Answer.{Report, answer_number, Answer, Counted, counted_report}
 use Rattle.region.proofs.AnswerLaws.{answers_by_number, refusals_by_number}
+use Rattle.region.specs.declared.Refusal.TheVariants.{BadState}
 use Rattle.pieces.specs.AsyncSpec.{Write}
 use Rattle.sheet.specs.Sheet.{judged_number}
 use Rattle.sheet.specs.declared.Judged.{Judged}
@@ -29,8 +31,6 @@ use Rattle.rounds.specs.Answer.{run_answer_number, RunAnswer}
 use Rattle.example.specs.Run.{Runs}
 use Rattle.rounds.proofs.AnswerNumbers.{run_answers_by_number}
 use Rattle.audit.proofs.Pinning.{Pinned, same, pin}
-use Rattle.std.specs.Prelude.{Ok, Err, Result}
-use Rattle.region.specs.declared.Refusal.TheVariants.{BadState}
 
 -- a cut's report settles its answer
 cuts_by_report : (a b : Counted) → counted_report a ≡ counted_report b → a ≡ b

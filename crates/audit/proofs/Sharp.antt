@@ -7,7 +7,9 @@ use mathlib.Core.Path.{◌≡◌, refl, sym, ap, ◌∙◌}
 use mathlib.Core.Bool.{false, false≢true}
 use mathlib.Core.List.{List, [], ◌∷◌}
 use lib.ListN.{get_or, replicate, set}
+use Rattle.std.specs.Prelude.{Ok, Err}
 use Rattle.region.specs.declared.Refusal.TheVariants.{BadState, BrokenImage}
+use Rattle.region.specs.Answer.{done}
 use Rattle.pieces.specs.AsyncSpec.{Write, write_of, flush_selective}
 use Rattle.cuts.proofs.Shape.{shaped_rows_crash}
 use Rattle.cuts.proofs.Tables.{rows_at_shape}
@@ -27,8 +29,6 @@ use Rattle.session.specs.Theorem.{Session}
 use Rattle.session.proofs.Theorem.{session}
 use Rattle.session.proofs.Computing.{everything}
 use Rattle.worked.proofs.Calls.{zeros, eight_is_nine, any_state, any_log, twice, log_with, one_write, found, idle, logged, the_opening, the_admitted_write}
-use Rattle.std.specs.Prelude.{Ok, Err}
-use Rattle.region.specs.Answer.{done}
 
 -- the image that a cut by a table leaves
 abbrev left_by : Desk → (table : List ℕ) → List ℕ

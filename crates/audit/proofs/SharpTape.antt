@@ -6,6 +6,8 @@ use native.Mathlib.Omega.{arith}
 use mathlib.Core.Path.{◌≡◌, refl, ap}
 use mathlib.Core.List.{List, [], ◌∷◌}
 use lib.ListN.{length, get_or, set}
+use Rattle.std.specs.Prelude.{Ok}
+use Rattle.region.specs.Answer.{done}
 use Rattle.pieces.specs.AsyncSpec.{Write, write_of}
 use Rattle.desk.specs.State.{record_of, appended, emptied, fresh}
 use Rattle.desk.specs.Desk.{Desk, desk, chunk_size}
@@ -23,8 +25,6 @@ use Rattle.session.specs.TapeTheorem.{TapeSession, prediction}
 use Rattle.session.proofs.Computing.{everything}
 use Rattle.audit.proofs.Sharp.{no_session}
 use Rattle.worked.proofs.Calls.{zeros, eight_is_nine, any_log, twice, image_with, log_with, one_write, found, idle, logged, written_down}
-use Rattle.std.specs.Prelude.{Ok}
-use Rattle.region.specs.Answer.{done}
 
 abbrev image_aa : List ℕ
 image_aa = image_with 0xAA

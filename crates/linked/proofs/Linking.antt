@@ -5,6 +5,7 @@ use native.Mathlib.Omega.{arith}
 use mathlib.Core.Path.{◌≡◌, refl, sym, subst, ◌∙◌}
 use mathlib.Core.List.{List, []}
 use lib.ListN.{length}
+use Rattle.std.specs.Prelude.{Err}
 use Rattle.region.specs.Limits.{writes_limit}
 use Rattle.region.specs.Answer.{refusal_number, done}
 use Rattle.region.specs.declared.Refusal.{Refusal}
@@ -35,7 +36,6 @@ use Rattle.linked.specs.Calls.{Call, Calls}
 use Rattle.linked.specs.Calls as calls
 use Rattle.linked.specs.TapeCalls.{TapeCall, TapeCalls}
 use Rattle.linked.specs.TapeCalls as tape_calls
-use Rattle.std.specs.Prelude.{Err}
 
 -- a refusal's number is one more than another
 pub one_more : (why : Refusal) → (k : ℕ) × (suc k ≡ refusal_number why)

@@ -4,6 +4,7 @@ use native.Mathlib.Nat.{suc-ne-zero}
 use mathlib.Core.Path.{◌≡◌, refl, sym, ap, ◌∙◌}
 use mathlib.Core.Logic.{◌↔◌}
 use mathlib.Core.List.{List}
+use Rattle.std.specs.Prelude.{Err, Ok}
 use Rattle.region.specs.Answer.{answer_number}
 use Rattle.pieces.specs.AsyncSpec.{Write}
 use Rattle.gate.specs.Judgement.{denied_number, verdict_report, Judged}
@@ -18,7 +19,6 @@ use Rattle.boundary.proofs.CallLaws.{StateSized}
 use Rattle.linked.specs.Meaning.{MeansByNumber}
 use Rattle.linked.proofs.Promises.{linked_open, linked_judge}
 use Rattle.linked.proofs.Runs.{done_of, admitted_of}
-use Rattle.std.specs.Prelude.{Err, Ok}
 
 denied_of : (v : Judged) → (verdict_report v).number ≡ denied_number → (m : ℕ) × (v ≡ Ok (Denied m))
 denied_of (Ok (Admitted n)) same = absurd (suc-ne-zero 7 (sym same))

@@ -5,6 +5,7 @@ use mathlib.Core.Bool.{Bool, true, false, ◌&&◌}
 use mathlib.Core.List.{List}
 use lib.Dec.{leb, ltb, eqb}
 use lib.ListN.{length}
+use Rattle.std.specs.Prelude.{Err, Ok}
 use Rattle.region.specs.Limits.{image_limit, writes_limit, log_limit, points_limit}
 use Rattle.region.specs.Answer.{refusal_number, answer_number, unless, or_else, Answer, done, Counted, counted_report}
 use Rattle.region.specs.declared.Refusal.{Refusal}
@@ -32,12 +33,11 @@ use Rattle.epochs.specs.Epoch.{epoch_there, epoch_number}
 use Rattle.tape.specs.Memory.{TapeDesk, tape_sound_for}
 use Rattle.tape.specs.Write.{tape_room_number, tape_write_number}
 use Rattle.tape.specs.Ending.{as_foretold, ending_number, tape_ending_number}
+use Rattle.rounds.specs.declared.RunError.TheVariants as run_answer
 use Rattle.example.specs.Setup.{setup_number}
 use Rattle.rounds.specs.Valid.{app_valid}
 use Rattle.rounds.specs.Answer.{run_answer_number, RunAnswer}
 use Rattle.example.specs.Run.{rounds_limit, run_number}
-use Rattle.rounds.specs.declared.RunError.TheVariants as run_answer
-use Rattle.std.specs.Prelude.{Err, Ok}
 
 -- an answer has this number
 abbrev pub Answers : ℕ → Type 0

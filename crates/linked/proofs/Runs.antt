@@ -8,6 +8,7 @@ use mathlib.Core.List.{List, []}
 use lib.Dec.{eqb}
 use lib.ListN.{length}
 use borrow.Author.Tests.{eqb-true}
+use Rattle.std.specs.Prelude.{Err, Ok}
 use Rattle.region.specs.Limits.{log_limit}
 use Rattle.region.specs.Answer.{answer_number, Answer, done, Counted, counted_report}
 use Rattle.region.specs.declared.Refusal.{Refusal}
@@ -33,7 +34,6 @@ use Rattle.session.specs.Theorem.{Session}
 use Rattle.session.proofs.Theorem.{power_loss_cuts, session, session_throughout}
 use Rattle.linked.proofs.Promises.{linked_open, sized_after_open, linked_write, sized_after_write, linked_read, linked_flush, sized_after_flush, linked_cut, sized_after_cut, linked_judge, linked_gate, sized_after_gate, linked_tape_write, sized_after_tape_write, linked_tape_flush, sized_after_tape_flush, linked_tape_cut, sized_after_tape_cut}
 use Rattle.linked.specs.Calls.{if_0, Call, gate, judge, judged_write, judged_tape_write, refused_write, refused_tape_write, flush, tape_flush, cut, tape_cut, reopen, restart, refused_opening, read, Calls, opened, ◌and◌}
-use Rattle.std.specs.Prelude.{Err, Ok}
 
 -- the event goes by the number
 pub answer_event : (a : Answer) (e : Event) {n : ℕ} → answer_number a ≡ n → if_answered a e ≡ if_0 n e

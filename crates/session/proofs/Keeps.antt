@@ -6,6 +6,7 @@ use native.Mathlib.Omega.{arith}
 use mathlib.Core.Path.{◌≡◌, refl, sym, subst⁻¹, ◌∙◌}
 use mathlib.Core.List.{List}
 use lib.ListN.{length}
+use Rattle.std.specs.Prelude.{Ok}
 use Rattle.region.specs.Limits.{writes_limit, log_limit}
 use Rattle.pieces.specs.AsyncSpec.{Write}
 use Rattle.desk.specs.Desk.{Desk, chunk_size, view, with_write, settled_desk}
@@ -15,7 +16,6 @@ use Rattle.gate.specs.Meaning.{CouldBeLeft}
 use Rattle.gate.specs.declared.Verdict.TheVariants.{Admitted}
 use Rattle.gate.proofs.Gives.{Holds, empty_holds, judged_holds}
 use Rattle.session.specs.History.{Event, nothing, written, happen, settled}
-use Rattle.std.specs.Prelude.{Ok}
 
 pub record Keeps (sheet : List ℕ) (d : Desk) (e : Event) (d' : Desk) : Type 0 where
   pub happened : view d' ≡ happen (chunk_size d) (view d) e

@@ -6,6 +6,7 @@ use mathlib.Core.Bool.{false}
 use mathlib.Core.List.{List}
 use lib.Dec.{lit<}
 use lib.ListN.{length, get_or, replicate}
+use Rattle.std.specs.Prelude.{Err, Ok}
 use Rattle.region.specs.Answer.{Report, Answer, done, Counted}
 use Rattle.region.specs.declared.Refusal.{Refusal}
 use Rattle.region.proofs.AnswerLaws.{refusal_not_done, changed, left}
@@ -38,7 +39,6 @@ use Rattle.session.specs.History.{Event, nothing, written, flushed, cut_by, reop
 use Rattle.session.specs.Run as run
 use Rattle.session.specs.Run.{Step}
 use Rattle.session.proofs.Keeps.{Keeps, stays, unmoved, records, settles}
-use Rattle.std.specs.Prelude.{Err, Ok}
 
 -- the number of a report
 pub numbered : {r : Report} {n : ℕ} {values : List ℕ} → r ≡ record { number = n; values = values } → n ≡ r.number

@@ -7,7 +7,9 @@ use mathlib.Core.Path.{◌≡◌, refl, sym, ap, ap₂, subst, ◌∙◌}
 use mathlib.Core.Bool.{Bool, true, false, cond}
 use mathlib.Core.List.{List, [], ◌∷◌, ◌++◌}
 use lib.ListN.{length, get_or}
+use Rattle.std.specs.Prelude.{Err, Ok}
 use Rattle.region.proofs.AnswerLaws.{refusal_not_done, left}
+use Rattle.region.specs.Answer.{Answer, done, Counted}
 use Rattle.pieces.specs.AsyncSpec.{Write, AsyncView, committed, flush_writes_selective}
 use Rattle.cuts.specs.Prophecy.{prophecy}
 use Rattle.desk.specs.Desk.{Desk, chunk_size, view}
@@ -28,8 +30,6 @@ use Rattle.session.specs.TapeRun.{shows, TapeStep, judged_write, flush, cut, reo
 use Rattle.session.specs.TapeTheorem.{foretold_end, start_after, GoesBy, epoch_start, ChosenBy, prediction, predictions, TapeSession}
 use Rattle.session.proofs.Steps.{numbered}
 use Rattle.session.proofs.Theorem.{invariant, session}
-use Rattle.region.specs.Answer.{Answer, done, Counted}
-use Rattle.std.specs.Prelude.{Err, Ok}
 
 -- the prophecy that header and rows are, and the end that the header says
 by_header : (C : ℕ) (v : AsyncView) (tape : List ℕ) (start : ℕ) (flushing : Bool)

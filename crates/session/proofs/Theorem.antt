@@ -7,6 +7,7 @@ use mathlib.Core.Bool.{true}
 use mathlib.Core.List.{List}
 use lib.Dec.{lit<}
 use lib.ListN.{length}
+use Rattle.std.specs.Prelude.{Ok}
 use Rattle.region.specs.Limits.{writes_limit, log_limit}
 use Rattle.region.specs.Answer.{Report, Answer, done}
 use Rattle.pieces.specs.AsyncSpec.{AsyncView, flush_selective}
@@ -26,7 +27,6 @@ use Rattle.session.specs.History.{History, opening, ◌then◌, cut_by, reopened
 use Rattle.session.specs.Run.{Run, opened, ◌and◌, cut, restart, Throughout}
 use Rattle.session.specs.Theorem.{Session}
 use Rattle.session.proofs.Steps.{step_keeps}
-use Rattle.std.specs.Prelude.{Ok}
 
 -- every image that a cut could leave is left by the cut by some table of bytes
 pub every_crash_is_a_cut : (d : Desk) → length d.state.records ≡ writes_limit → Sound d → (x : List ℕ) → CouldBeLeft d x

@@ -4,6 +4,7 @@
 use Rattle.std.specs.Prelude.{ℕ, ◌+◌, ◌≡◌, List, Ok, Err}
 use Rattle.std.specs.Borrow.{MutBor}
 use Rattle.region.specs.declared.Refusal.{Refusal}
+use Rattle.region.specs.Answer.{Answer, done, Counted}
 use Rattle.pieces.specs.AsyncSpec.{Write}
 use Rattle.desk.specs.Desk.{Desk}
 use Rattle.writelog.specs.Write.{Writes}
@@ -18,7 +19,6 @@ use Rattle.tape.specs.Write.{TapeWrites}
 use Rattle.tape.specs.Flush.{TapeFlushes}
 use Rattle.tape.specs.Cut.{TapeCuts}
 use Rattle.session.specs.History.{Event, nothing, written, flushed, cut_by, reopened, History, opening, ◌then◌, if_answered, if_admitted, if_cut}
-use Rattle.region.specs.Answer.{Answer, done, Counted}
 
 -- A session protects the desk. Working and predicted images are the caller's: every step leaves open what such a buffer held before.
 module _ (sheet : List ℕ) where

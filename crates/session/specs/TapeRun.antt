@@ -2,6 +2,7 @@
 -- write, flush and cut goes by the tape. "A write by tape doesn't judge; in a session the judging call comes first." The buffer for the predicted image is
 -- the caller's: a call takes any, and what the accepted ones left in theirs is listed.
 use Rattle.std.specs.Prelude.{ℕ, ◌+◌, ◌≡◌, List, [], ◌∷◌, ◌++◌, Ok}
+use Rattle.region.specs.Answer.{Answer, done, Counted}
 use Rattle.pieces.specs.AsyncSpec.{Write}
 use Rattle.desk.specs.Desk.{Desk}
 use Rattle.gate.specs.Opening.{Opens}
@@ -13,7 +14,6 @@ use Rattle.tape.specs.Flush.{TapeFlushes}
 use Rattle.tape.specs.Cut.{TapeCuts}
 use Rattle.session.specs.History.{Event, nothing, written, flushed, cut_by, reopened, History, opening, ◌then◌, if_answered, if_cut}
 use Rattle.session.specs.Run.{Step}
-use Rattle.region.specs.Answer.{Answer, done, Counted}
 
 -- the images that an event predicts, given the buffer afterwards: an accepted call by tape has filled it
 unfoldable pub shows : Event → (predicted : List ℕ) → List (List ℕ)

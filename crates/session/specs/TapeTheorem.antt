@@ -2,6 +2,7 @@
 -- is the replay with those choices." `tape_session : TapeRun sheet tape image h d start shown → TapeSession sheet tape image h d start shown`
 -- (`proofs/TapeTheorem.antt`). The replay is that of `Session`: its history ends each epoch as the tape says.
 use Rattle.std.specs.Prelude.{ℕ, ◌+◌, ◌≡◌, cond, List, [], ◌∷◌, ◌++◌, length, Ok}
+use Rattle.region.specs.Answer.{done}
 use Rattle.pieces.specs.AsyncSpec.{AsyncView, committed, NoOutstandingWrites}
 use Rattle.cuts.specs.Bits.{view_chunks}
 use Rattle.desk.specs.Desk.{Desk, chunk_size}
@@ -12,7 +13,6 @@ use Rattle.tape.specs.Cut.{TapeCuts}
 use Rattle.session.specs.History.{Event, nothing, written, flushed, cut_by, reopened, History, opening, ◌then◌, replay}
 use Rattle.session.specs.Theorem.{Session}
 use Rattle.session.specs.TapeRun.{shows}
-use Rattle.region.specs.Answer.{done}
 
 -- how the epoch will end, as its header says: by a flush, or by a cut that goes by the epoch's rows
 abbrev pub foretold_end : (tape : List ℕ) (start : ℕ) → Event

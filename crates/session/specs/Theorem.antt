@@ -3,6 +3,7 @@
 -- argue for, and `held_before_crash` of crashinv_t.rs assumes.
 use Rattle.std.specs.Prelude.{ℕ, ◌≡◌, true, List, length}
 use Rattle.region.specs.Limits.{log_limit}
+use Rattle.region.specs.Answer.{Answer, done}
 use Rattle.pieces.specs.AsyncSpec.{committed}
 use Rattle.cuts.specs.Packed.{AreBytes}
 use Rattle.sheet.specs.Sheet.{allows}
@@ -11,7 +12,6 @@ use Rattle.writelog.specs.Cut.{cut_number}
 use Rattle.gate.specs.Opening.{Opens}
 use Rattle.gate.specs.Meaning.{CouldBeLeft}
 use Rattle.session.specs.History.{History, cut_by, ◌then◌, replay}
-use Rattle.region.specs.Answer.{Answer, done}
 
 pub record Session (sheet image : List ℕ) (h : History) (d : Desk) : Type 0 where
   -- "every image that a cut could leave obeys the sheet"

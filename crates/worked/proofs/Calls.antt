@@ -5,8 +5,10 @@ use mathlib.Core.Path.{refl}
 use mathlib.Core.List.{List, [], ◌∷◌}
 use lib.ListN.{replicate, set}
 use denote.Ref.{MutBor}
+use Rattle.std.specs.Prelude.{Err}
 use Rattle.region.specs.Limits.{writes_limit, log_limit}
 use Rattle.region.specs.declared.Refusal.TheVariants.{OutOfRange, BrokenImage, BadRows, BadTape, NotPredicted}
+use Rattle.region.specs.Answer.{done}
 use Rattle.pieces.specs.AsyncSpec.{Write, write_of}
 use Rattle.desk.specs.State.{record_of, appended, emptied, fresh}
 use Rattle.desk.specs.Desk.{Desk, desk}
@@ -24,8 +26,6 @@ use Rattle.tape.specs.Write.{TapeWrites}
 use Rattle.tape.specs.Flush.{TapeFlushes}
 use Rattle.tape.specs.Cut.{TapeCuts}
 use Rattle.worked.proofs.Computing.{calls}
-use Rattle.std.specs.Prelude.{Err}
-use Rattle.region.specs.Answer.{done}
 
 abbrev pub zeros : List ℕ
 zeros = replicate 16 0
