@@ -5,7 +5,7 @@ use mathlib.Core.Path.{refl}
 use mathlib.Core.List.{List, [], ◌∷◌}
 use lib.ListN.{replicate, set}
 use denote.Ref.{MutBor}
-use Rattle.std.specs.Prelude.{Err}
+use Rattle.std.specs.Prelude.{Ok, Err}
 use Rattle.region.specs.Limits.{writes_limit, log_limit}
 use Rattle.region.specs.declared.Refusal.TheVariants.{OutOfRange, BrokenImage, BadRows, BadTape, NotPredicted}
 use Rattle.region.specs.Answer.{done}
@@ -20,7 +20,6 @@ use Rattle.writelog.specs.Cut.{Cuts}
 use Rattle.gate.specs.Opening.{Opens}
 use Rattle.gate.specs.Judgement.{Judges, Gates}
 use Rattle.gate.specs.declared.Verdict.TheVariants.{Admitted, Denied}
-use Rattle.gate.specs.declared.Verdict.TheVariants as verdict
 use Rattle.tape.specs.Memory.{by_tape}
 use Rattle.tape.specs.Write.{TapeWrites}
 use Rattle.tape.specs.Flush.{TapeFlushes}
@@ -81,20 +80,20 @@ pub the_opening : Opens (found zeros) eight_is_nine done (idle zeros)
 unfolding calls
 the_opening = record { answers = refl; leaves = refl }
 
-pub the_verdict : Judges (idle zeros) eight_is_nine zeros (twice 0xAA) (Admitted 1) (image_with 0xAA)
+pub the_verdict : Judges (idle zeros) eight_is_nine zeros (twice 0xAA) (Ok (Admitted 1)) (image_with 0xAA)
 unfolding calls
 the_verdict = record { answers = refl; fills = refl }
 
-pub the_admitted_write : Gates (idle zeros) eight_is_nine zeros (twice 0xAA) (Admitted 1) (logged zeros 0xAA) (image_with 0xAA)
+pub the_admitted_write : Gates (idle zeros) eight_is_nine zeros (twice 0xAA) (Ok (Admitted 1)) (logged zeros 0xAA) (image_with 0xAA)
 unfolding calls
 the_admitted_write = record { judges = the_verdict; leaves = refl }
 
 -- of the two writes the newer alone is the first bad choice
-pub the_denied_write : Gates (logged zeros 0xAA) eight_is_nine zeros (write_of 9 (0xBB ∷ [])) (Denied 2) (logged zeros 0xAA) (set zeros 9 0xBB)
+pub the_denied_write : Gates (logged zeros 0xAA) eight_is_nine zeros (write_of 9 (0xBB ∷ [])) (Ok (Denied 2)) (logged zeros 0xAA) (set zeros 9 0xBB)
 unfolding calls
 the_denied_write = record { judges = record { answers = refl; fills = refl }; leaves = refl }
 
-pub the_denied_verdict : Judges (logged zeros 0xAA) eight_is_nine zeros (write_of 9 (0xBB ∷ [])) (Denied 2) (set zeros 9 0xBB)
+pub the_denied_verdict : Judges (logged zeros 0xAA) eight_is_nine zeros (write_of 9 (0xBB ∷ [])) (Ok (Denied 2)) (set zeros 9 0xBB)
 unfolding calls
 the_denied_verdict = record { answers = refl; fills = refl }
 
@@ -139,12 +138,12 @@ pub the_refused_cut : Cuts (logged zeros 0xAA) [] (Err BadRows) (logged zeros 0x
 unfolding calls
 the_refused_cut = record { answers = refl; leaves = refl }
 
-pub the_cut : Cuts (logged zeros 0xAA) rows (Kept 1) (written_down (image_with 0xAA) 0xAA)
+pub the_cut : Cuts (logged zeros 0xAA) rows (Ok 1) (written_down (image_with 0xAA) 0xAA)
 unfolding calls
 the_cut = record { answers = refl; leaves = refl }
 
 -- CC by a plain write, lost by a reopening, and once more
-pub the_second_verdict : Judges (written_down (image_with 0xAA) 0xAA) eight_is_nine zeros (twice 0xCC) (Admitted 1) (image_with 0xCC)
+pub the_second_verdict : Judges (written_down (image_with 0xAA) 0xAA) eight_is_nine zeros (twice 0xCC) (Ok (Admitted 1)) (image_with 0xCC)
 unfolding calls
 the_second_verdict = record { answers = refl; fills = refl }
 
@@ -161,7 +160,7 @@ pub the_refused_opening : Opens (found (set zeros 8 0xAA)) eight_is_nine (Err Br
 unfolding calls
 the_refused_opening = record { answers = refl; leaves = refl }
 
-pub the_third_verdict : Judges (desk (image_with 0xAA) fresh (log_with 0xCC)) eight_is_nine zeros (twice 0xCC) (Admitted 1) (image_with 0xCC)
+pub the_third_verdict : Judges (desk (image_with 0xAA) fresh (log_with 0xCC)) eight_is_nine zeros (twice 0xCC) (Ok (Admitted 1)) (image_with 0xCC)
 unfolding calls
 the_third_verdict = record { answers = refl; fills = refl }
 
@@ -178,7 +177,7 @@ pub the_restart : Opens (found (image_with 0xCC)) eight_is_nine done (idle (imag
 unfolding calls
 the_restart = record { answers = refl; leaves = refl }
 
-pub the_verdict_on_dd : Judges (idle (image_with 0xCC)) eight_is_nine zeros (twice 0xDD) (Admitted 1) (image_with 0xDD)
+pub the_verdict_on_dd : Judges (idle (image_with 0xCC)) eight_is_nine zeros (twice 0xDD) (Ok (Admitted 1)) (image_with 0xDD)
 unfolding calls
 the_verdict_on_dd = record { answers = refl; fills = refl }
 
@@ -214,7 +213,7 @@ pub the_refused_tape_flush : TapeFlushes (by_tape (idle (image_with 0xDD)) 2 zer
 unfolding calls
 the_refused_tape_flush = record { answers = refl; leaves = refl }
 
-pub the_verdict_on_bb : Judges (idle (image_with 0xDD)) eight_is_nine zeros (twice 0xBB) (Admitted 1) (image_with 0xBB)
+pub the_verdict_on_bb : Judges (idle (image_with 0xDD)) eight_is_nine zeros (twice 0xBB) (Ok (Admitted 1)) (image_with 0xBB)
 unfolding calls
 the_verdict_on_bb = record { answers = refl; fills = refl }
 
@@ -222,6 +221,6 @@ pub the_second_tape_write : TapeWrites (by_tape (idle (image_with 0xDD)) 2 zeros
 unfolding calls
 the_second_tape_write = record { answers = refl; leaves = refl }
 
-pub the_tape_cut : TapeCuts (by_tape (logged (image_with 0xDD) 0xBB) 2 zeros) tape (Kept 1) (by_tape (written_down (image_with 0xBB) 0xBB) 4 (image_with 0xBB))
+pub the_tape_cut : TapeCuts (by_tape (logged (image_with 0xDD) 0xBB) 2 zeros) tape (Ok 1) (by_tape (written_down (image_with 0xBB) 0xBB) 4 (image_with 0xBB))
 unfolding calls
 the_tape_cut = record { answers = refl; leaves = refl }
