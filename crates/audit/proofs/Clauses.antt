@@ -118,7 +118,7 @@ done_flush_keeps_the_view d p rows rows' flushed =
 -- The one by tape, whatever it answers: what the tape foretells of the desk afterwards is what it foretold before.
 pub tape_flush_keeps_the_view : (t : TapeDesk) (tape : List ℕ) (a : Answer) {t' : TapeDesk} → length t.memory.state.records ≡ writes_limit
     → TapeFlushes t tape a t' → foretold_on tape t' ≡ foretold_on tape t
-tape_flush_keeps_the_view t tape done {t'} sized p =
+tape_flush_keeps_the_view t tape (Ok unit) {t'} sized p =
     let none = sym p.answers in
     let rows : List (List Bool) = epoch_rows (chunks t.memory) (length (view t.memory).outstanding_writes) tape t.start in
     ap (λ (v : AsyncView). foretold (chunk_size t.memory) tape t'.start v) (step_of_flush sized p none).flushed

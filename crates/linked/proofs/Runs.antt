@@ -37,7 +37,7 @@ use Rattle.linked.specs.Calls.{if_0, Call, gate, judge, judged_write, judged_tap
 
 -- the event goes by the number
 pub answer_event : (a : Answer) (e : Event) {n : ℕ} → answer_number a ≡ n → if_answered a e ≡ if_0 n e
-answer_event done e same = done_changed _ (sym same)
+answer_event (Ok unit) e same = done_changed _ (sym same)
 answer_event (Err why) e same = refused_left why _ (sym same)
 
 pub verdict_event : (v : Judged) (e : Event) {n : ℕ} → (verdict_report v).number ≡ n → if_admitted v e ≡ if_0 n e

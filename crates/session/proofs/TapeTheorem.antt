@@ -9,7 +9,7 @@ use mathlib.Core.List.{List, [], ◌∷◌, ◌++◌}
 use lib.ListN.{length, get_or}
 use Rattle.std.specs.Prelude.{Err, Ok}
 use Rattle.region.proofs.AnswerLaws.{refusal_not_done, left}
-use Rattle.region.specs.Answer.{Answer, done, Counted}
+use Rattle.region.specs.Answer.{Answer, Counted}
 use Rattle.pieces.specs.AsyncSpec.{Write, AsyncView, committed, flush_writes_selective}
 use Rattle.cuts.specs.Prophecy.{prophecy}
 use Rattle.desk.specs.Desk.{Desk, chunk_size, view}
@@ -98,7 +98,7 @@ module _ (sheet tape : List ℕ) where
     writes_follow : {predicted : List ℕ} {w : Write} (a : Answer) {t' : TapeDesk} → TapeWrites (by_tape d start predicted) tape w a t'
         → Follows d start (if_answered a (written w)) t'
     unfolding start_after GoesBy shows
-    writes_follow {w = w} done p =
+    writes_follow {w = w} (Ok unit) p =
         let s = step_of_write h.sized p (sym p.answers) in
         record {
           starts = s.start_after;
@@ -112,7 +112,7 @@ module _ (sheet tape : List ℕ) where
     flushes_follow : {predicted : List ℕ} (a : Answer) {t' : TapeDesk} → TapeFlushes (by_tape d start predicted) tape a t'
         → Follows d start (if_answered a flushed) t'
     unfolding start_after GoesBy shows
-    flushes_follow {predicted} done p =
+    flushes_follow {predicted} (Ok unit) p =
         let s = (step_of_flush h.sized p (sym p.answers)).ending in
         let as_said = (ending_done true (by_tape d start predicted) tape (sym p.answers)).foretold in
         record {
@@ -141,7 +141,7 @@ module _ (sheet tape : List ℕ) where
 
     openings_follow : {d' : Desk} {predicted : List ℕ} (a : Answer) → d.state.count ≡ 0
         → Follows d start (if_answered a reopened) (by_tape d' start predicted)
-    openings_follow done empty = reopened_follows empty
+    openings_follow (Ok unit) empty = reopened_follows empty
     openings_follow (Err why) empty = idle refl
 
     follows : {e : Event} {t' : TapeDesk} → TapeStep sheet tape d start e t' → Follows d start e t'

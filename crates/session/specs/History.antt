@@ -1,7 +1,7 @@
 -- The history of a session, and its replay. An event is read off a call's arguments and answer, and the replay is a fold over the events alone: it
 -- looks at no state and no log buffer. Its terms are those of pmem_async_spec_t.rs: the view, `write`, `flush`, `flush_selective`.
 use Rattle.std.specs.Prelude.{ℕ, Bool, false, List, [], length, replicate, Err, Ok}
-use Rattle.region.specs.Answer.{Answer, done, Counted}
+use Rattle.region.specs.Answer.{Answer, Counted}
 use Rattle.pieces.specs.AsyncSpec.{Write, AsyncView, write, flush, flush_selective}
 use Rattle.pieces.specs.Rows.{rows_at}
 use Rattle.cuts.specs.Bits.{view_chunks}
