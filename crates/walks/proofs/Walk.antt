@@ -61,7 +61,7 @@ none_selected C (r ∷ rs) work log table row e = absurd (omega arith)
 
 -- What the writes after the first give over the image with that one laid is what they all give.
 module _ {all : List Record} {r : Record} {rs : List Record} (first : all ≡ r ∷ rs) (log work : List ℕ) {laid bytes behind : List ℕ}
-  (own : bytes ≡ take r.len log) (others : behind ≡ drop r.len log) where
+    (own : bytes ≡ take r.len log) (others : behind ≡ drop r.len log) where
   pub next_whole : laid ≡ update_bytes work r.addr bytes → replayed_whole laid rs behind ≡ replayed_whole work all log
   unfolding writes_of flush_writes
   next_whole e =
@@ -77,4 +77,4 @@ module _ {all : List Record} {r : Record} {rs : List Record} (first : all ≡ r 
       ap₂ (λ (n w : ℕ). flush_writes_selective C laid (writes_of rs behind) (rows_at (size_to_chunks C n) (length rs) table (row + w))) same wide
       ∙ ap₂ (λ (x rest : List ℕ). flush_writes_selective C x (writes_of rs rest) (rows_at K (length rs) table (row + row_bytes K)))
       (e ∙ ap (λ (b : List ℕ). apply_write_selective C work (recorded_write r b) (row_at K table row)) own) others
-        ∙ sym (ap (λ (l : List Record). replayed_by_rows C work l log table row) first)
+      ∙ sym (ap (λ (l : List Record). replayed_by_rows C work l log table row) first)
