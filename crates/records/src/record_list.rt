@@ -3,28 +3,25 @@
 ghost use Rattle.std.specs.Prelude.{◌≡◌, ltb, length, get_or, set};
 ghost use Rattle.records.specs.Record.{no_record};
 
-use crate::Record;
+use crate::{NO_RECORD, Record};
 use region::WRITES_LIMIT;
 
 // The record at index i, or the zero record where the list has none.
 pub fn lookup(records: &[Record], i: usize) -> Record
     ensures { result ≡ get_or records.now i no_record }
 {
-    if i < records.len() {
-        return records[i];
-    }
-    Record { addr: 0, len: 0 }
+    records.get(i).copied().unwrap_or(NO_RECORD)
 }
 
 // Stores r at index `at`, and says whether the list has that index; where it has not, nothing changes.
 pub fn append(records: &mut [Record], at: usize, r: Record) -> bool
     ensures { (result ≡ ltb at (length records.old)) × (records.new ≡ set records.old at r) }
 {
-    if at < records.len() {
+    let there = at < records.len();
+    if there {
         records[at] = r;
-        return true;
     }
-    false
+    there
 }
 
 // The record at index i, or the zero record past the array's last: the local array is lent to `lookup`.
