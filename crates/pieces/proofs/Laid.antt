@@ -1,6 +1,6 @@
 -- One write laid byte by byte. `lay keep s addr bytes` has the bytes of the write where `keep` says so: a whole write keeps every address
 -- (`update_is_lay`), a selective one those in selected chunks (by definition). A loop that has laid j bytes has `lay keep s addr (take j bytes)`,
--- and one byte more is one store or none (`lay_kept`, `lay_lost`). Assumes nothing.
+-- and one byte more is one store or none (`lay_kept`, `lay_lost`). Bytes that are copied in one go are laid too (`paste_is_update`). Assumes nothing.
 use Prim.Native.Nat.{ℕ, zero, suc, ◌+◌, ◌-◌, ◌≤◌, ◌<◌}
 use native.Mathlib.Nat.{le_refl, add-sub_cancel_left, sub-zero}
 use native.Mathlib.Numerals.{add-one}

@@ -1,5 +1,5 @@
--- A row of the table as a list of bits, and the rows from a place on, one at a time. A loop counts down the rows that are left, so these laws take
--- one row off a number that is above 0. Assumes nothing.
+-- A row of the table as a list of bits, and the rows from a place on, one at a time. A loop counts down the rows that are left, so `one_less` and
+-- `rows_at_more` take one row off a number that is above 0. Assumes nothing.
 use Prim.Native.Nat.{ℕ, zero, suc, ◌+◌, ◌-◌, ◌*◌, ◌<◌}
 use native.Mathlib.Nat.{suc-mul, add_comm, not-suc-le-zero}
 use native.Mathlib.Numerals.{add-one, sub-one}

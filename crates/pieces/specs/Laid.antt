@@ -6,11 +6,11 @@ use Rattle.pieces.specs.AsyncSpec.{Write, apply_write_selective, size_to_chunks}
 use Rattle.pieces.specs.Choice.{row_of}
 use Rattle.pieces.specs.Rows.{row_at}
 
--- the bytes of a write, at the addresses that are kept
+-- the bytes of a write laid over s, at the addresses that are kept
 unfoldable pub lay : (keep : ℕ → Bool) (s : List ℕ) (addr : ℕ) (bytes : List ℕ) → List ℕ
 lay keep s addr bytes = tab (λ i. cond (inside addr (length bytes) i && keep i) (get_or bytes (i - addr) 0) (get_or s i 0)) (length s)
 
--- at the addresses of a write a test answers as kept says
+-- a test answers for the addresses of a write as keep does
 abbrev pub Tells : (answers : ℕ → Bool → Type 0) (keep : ℕ → Bool) (w : Write) → Type 0
 Tells answers keep w = (i : ℕ) (b : Bool) → w.addr ≤ i → i < w.addr + length w.bytes → answers i b → b ≡ keep i
 

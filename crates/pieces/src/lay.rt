@@ -1,7 +1,6 @@
 // One write laid over an image in place.
 ghost use Rattle.std.specs.Prelude.{◌≡◌, ◌+◌, ◌≤◌, ◌<◌, ℕ, Bool, length};
 ghost use Rattle.region.specs.Limits.{const_persistence_chunk_size, points_limit};
-ghost use Rattle.region.specs.Pmemspec.{update_bytes};
 ghost use Rattle.pieces.specs.AsyncSpec.{apply_write, size_to_chunks};
 ghost use Rattle.pieces.specs.Handed.{handed};
 ghost use Rattle.pieces.specs.Choice.{touched};
@@ -15,24 +14,24 @@ use region::CHUNK_SIZE;
 // The whole write: `apply_write`.
 pub fn lay(work: &mut [u8], write: Write)
     requires { write.addr + length write.bytes.now ≤ length work.old }
-    ensures { work.new ≡ update_bytes work.old write.entry.addr write.entry.bytes.now }
+    ensures { work.new ≡ apply_write work.old (handed write.entry) }
 {
     let Write { addr, bytes } = write;
     let end = addr + bytes.len();
     work[addr..end].copy_from_slice(bytes);
 }
 
-// The bytes at the addresses that `keeps` says.
+// Only the bytes at addresses that `keeps` answers for.
 fn lay_where<F: Fn(usize) -> bool>(work: &mut [u8], write: Write, keeps: F)
     requires lies { write.addr + length write.bytes.now ≤ length work.old }
-    requires told { (i : ℕ) → write.addr ≤ i → i < write.addr + length write.bytes.now → F.pre keeps i }
+    requires answers { (i : ℕ) → write.addr ≤ i → i < write.addr + length write.bytes.now → F.pre keeps i }
     ensures { (keep : ℕ → Bool) → Tells (F.post keeps) keep (handed write.entry)
         → work.new ≡ lay keep work.old write.entry.addr write.entry.bytes.now }
 {
-    for (j, byte) in write.bytes.iter().enumerate() {
+    for (j, &byte) in write.bytes.iter().enumerate() {
         let i = write.addr + j;
         if keeps(i) {
-            work[i] = *byte;
+            work[i] = byte;
         }
     }
 }

@@ -7,8 +7,8 @@ use Rattle.pieces.specs.Laid.{lay}
 use Rattle.pieces.proofs.ChoiceBits.{byte_touches, chosen_bit}
 use Rattle.pieces.proofs.lay.lay_chosen.Goals as goal
 
-pub lay_where-requires-clause-told : goal.lay_where-requires-clause-told
-lay_where-requires-clause-told c =
+pub lay_where-requires-clause-answers : goal.lay_where-requires-clause-answers
+lay_where-requires-clause-answers c =
     λ i low high.
     let near = byte_touches (write_of c.args.write.addr c.args.write.bytes.now) i low high in
     grind arith
