@@ -93,7 +93,7 @@ module _ (d : Desk) (sized : length d.state.records ≡ writes_limit) where
       (shaped_rows_crash (chunk_size d) (view d) rows shape)
 
   -- `write` of pmem_async_spec_t.rs: a done write puts the write to the end of the log
-  pub done_write_writes : (w : Write) {d' : Desk} → Writes d w Done d' → view d' ≡ write (view d) w
+  pub done_write_writes : (w : Write) {d' : Desk} → Writes d w done d' → view d' ≡ write (view d) w
   unfolding write_number
   done_write_writes w p =
       let tests = passed _ (sym p.answers) in
@@ -101,7 +101,7 @@ module _ (d : Desk) (sized : length d.state.records ≡ writes_limit) where
       ∙ view_of_recorded d w sized (sound_facts _ d.state _ tests.0) (room_done _ d.state (record_of w) tests.1)
 
 -- `flush` of pmem_async_spec_t.rs: a done flush flushes
-pub done_flush_flushes : (d : Desk) {d' : Desk} → Flushes d Done d' → view d' ≡ flush (view d)
+pub done_flush_flushes : (d : Desk) {d' : Desk} → Flushes d done d' → view d' ≡ flush (view d)
 done_flush_flushes d p =
     ap view (changed d p.leaves (sym p.answers)) ∙ view_of_settled d (readable (view d)) ∙ sym (flush_leaves_the_read_image (view d))
 
@@ -110,7 +110,7 @@ done_flush_flushes d p =
 abbrev pub awaiting_a_flush : Desk → (rows : List (List Bool)) → PersistentMemoryRegionView
 awaiting_a_flush d rows = prophecy (chunk_size d) true (view d) rows
 
-pub done_flush_keeps_the_view : (d : Desk) {d' : Desk} → Flushes d Done d' → (rows rows' : List (List Bool)) (flushed : Bool)
+pub done_flush_keeps_the_view : (d : Desk) {d' : Desk} → Flushes d done d' → (rows rows' : List (List Bool)) (flushed : Bool)
     → prophecy (chunk_size d) flushed (view d') rows' ≡ awaiting_a_flush d rows
 done_flush_keeps_the_view d p rows rows' flushed =
     ap (λ (v : AsyncView). prophecy (chunk_size d) flushed v rows') (done_flush_flushes d p) ∙ flush_keeps_the_view (chunk_size d) (view d) rows rows' flushed
@@ -132,7 +132,7 @@ flush_narrows C positive v x h = subst⁻¹ (CanCrash C v) ((cut_after_flush C v
 
 -- `new` of pmem_async_equiv_t.rs: after a good opening the read image and the durable image are the image, whatever the tape foretells
 pub opened_is_foretold : (C : ℕ) (tape : List ℕ) (start : ℕ) (d : Desk) (sheet : List ℕ) {d' : Desk}
-    → Opens d sheet Done d' → foretold C tape start (view d') ≡ record { read_state = d.image; durable_state = d.image }
+    → Opens d sheet done d' → foretold C tape start (view d') ≡ record { read_state = d.image; durable_state = d.image }
 opened_is_foretold C tape start d sheet p =
     ap (λ (x : Desk). foretold C tape start (view x)) (opened_fresh p refl)
     ∙ ap (foretold C tape start) (view_of_settled (opened_desk d) d.image)

@@ -1,18 +1,14 @@
 -- No call of the library leaves a choice: of the answer with what it reports, nor of any memory that it is lent. The viewer's part is pinned in `region`
 -- (`viewed_once`). Assumes nothing.
 use Prim.Native.Nat.{ℕ}
-use native.Mathlib.Omega.{arith}
 use mathlib.Core.Path.{◌≡◌, refl, sym, ap}
 use mathlib.Core.List.{List}
 use denote.Ref.{MutBor}
-use Rattle.std.specs.Prelude.{Ok, Err, Result}
+use Rattle.std.specs.Prelude.{Ok, Err}
 use Rattle.region.specs.Answer.{Report, answer_number, Answer, Counted, counted_report}
 use Rattle.region.proofs.AnswerLaws.{answers_by_number, refusals_by_number}
-use Rattle.region.specs.declared.Refusal.TheVariants.{BadState}
 use Rattle.pieces.specs.AsyncSpec.{Write}
-use Rattle.sheet.specs.Sheet.{judged_number}
-use Rattle.sheet.specs.declared.Judged.{Judged}
-use Rattle.sheet.specs.declared.Judged.TheVariants.{Malformed, Obeys, Breaks}
+use Rattle.sheet.specs.Sheet.{sheet_number}
 use Rattle.desk.specs.Desk.{Desk}
 use Rattle.writelog.specs.Write.{Writes}
 use Rattle.writelog.specs.Read.{Fills, HandsBack}
@@ -32,41 +28,24 @@ use Rattle.example.specs.Run.{Runs}
 use Rattle.rounds.proofs.AnswerNumbers.{run_answers_by_number}
 use Rattle.audit.proofs.Pinning.{Pinned, same, pin}
 
--- a cut's report settles its answer
-cuts_by_report : (a b : Counted) → counted_report a ≡ counted_report b → a ≡ b
-cuts_by_report (Ok k) (Ok j) e = ap Kept (one_value (same_values e))
-cuts_by_report (Ok k) (Err why) e = absurd (nothing_reported (sym (same_values e)))
-cuts_by_report (Err why) (Ok k) e = absurd (nothing_reported (same_values e))
-cuts_by_report (Err a) (Err b) e = ap Refused (refusals_by_number a b (same_number e))
+-- the report of a call that counts settles its answer
+counted_by_report : (a b : Counted) → counted_report a ≡ counted_report b → a ≡ b
+counted_by_report (Ok k) (Ok j) e = ap Ok (one_value (same_values e))
+counted_by_report (Ok k) (Err why) e = absurd (nothing_reported (sym (same_values e)))
+counted_by_report (Err why) (Ok k) e = absurd (nothing_reported (same_values e))
+counted_by_report (Err a) (Err b) e = ap Err (refusals_by_number a b (same_number e))
 
 -- any call whose promise is its number alone
 pub number_pinned : {n : ℕ} (a b : Answer) → answer_number a ≡ n → answer_number b ≡ n → a ≡ b
 number_pinned a b p q = answers_by_number a b (same p q)
 
--- what a sheet is judged to be, by its number
-judged_by_number : (a b : Judged) → judged_number a ≡ judged_number b → a ≡ b
-judged_by_number Malformed Malformed e = refl
-judged_by_number Malformed Obeys e = absurd (omega (arith, e))
-judged_by_number Malformed Breaks e = absurd (omega (arith, e))
-judged_by_number Obeys Malformed e = absurd (omega (arith, e))
-judged_by_number Obeys Obeys e = refl
-judged_by_number Obeys Breaks e = absurd (omega (arith, e))
-judged_by_number Breaks Malformed e = absurd (omega (arith, e))
-judged_by_number Breaks Obeys e = absurd (omega (arith, e))
-judged_by_number Breaks Breaks e = refl
-
-pub sheet_pinned : {n : ℕ} (a b : Judged) → judged_number a ≡ n → judged_number b ≡ n → a ≡ b
-sheet_pinned a b p q = judged_by_number a b (same p q)
+-- so what a sheet says of an image
+pub sheet_pinned : (sheet image : List ℕ) (a b : Answer) → answer_number a ≡ sheet_number sheet image → answer_number b ≡ sheet_number sheet image → a ≡ b
+sheet_pinned sheet image = number_pinned
 
 -- and what a state is checked to be, by its report
-outstanding_by_report : (a b : Counted) → counted_report a ≡ counted_report b → a ≡ b
-outstanding_by_report (Ok m) (Ok n) e = ap Bytes (one_value (same_values e))
-outstanding_by_report (Ok m) (Err BadState) e = absurd (nothing_reported (sym (same_values e)))
-outstanding_by_report (Err BadState) (Ok n) e = absurd (nothing_reported (same_values e))
-outstanding_by_report (Err BadState) (Err BadState) e = refl
-
 pub check_pinned : {r : Report} (a b : Counted) → counted_report a ≡ r → counted_report b ≡ r → a ≡ b
-check_pinned a b p q = outstanding_by_report a b (same p q)
+check_pinned a b p q = counted_by_report a b (same p q)
 
 module _ (d : Desk) where
   pub write_pinned : (w : Write) → Pinned (Writes d w)
@@ -84,7 +63,7 @@ module _ (d : Desk) where
   flush_pinned = pin answer_number answers_by_number (λ a l p. p.answers) (λ a l p. p.leaves)
 
   pub cut_pinned : (table : List ℕ) → Pinned (Cuts d table)
-  cut_pinned table = pin counted_report cuts_by_report (λ a l p. p.answers) (λ a l p. p.leaves)
+  cut_pinned table = pin counted_report counted_by_report (λ a l p. p.answers) (λ a l p. p.leaves)
 
   pub open_pinned : (sheet : List ℕ) → Pinned (Opens d sheet)
   open_pinned sheet = pin answer_number answers_by_number (λ a l p. p.answers) (λ a l p. p.leaves)
@@ -105,7 +84,7 @@ module _ (t : TapeDesk) (tape : List ℕ) where
   tape_flush_pinned = pin answer_number answers_by_number (λ a l p. p.answers) (λ a l p. p.leaves)
 
   pub tape_cut_pinned : Pinned (TapeCuts t tape)
-  tape_cut_pinned = pin counted_report cuts_by_report (λ a l p. p.answers) (λ a l p. p.leaves)
+  tape_cut_pinned = pin counted_report counted_by_report (λ a l p. p.answers) (λ a l p. p.leaves)
 
 pub setup_pinned : (image : List ℕ) (addr val0 : ℕ) → Pinned (SetsUp image addr val0)
 setup_pinned image addr val0 = pin answer_number answers_by_number (λ a l p. p.answers) (λ a l p. p.image_after)

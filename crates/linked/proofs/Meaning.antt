@@ -36,13 +36,13 @@ module _ (v : Judged) (report : ℕ) {number report' : ℕ} (same : (verdict_rep
   admitted : (n : ℕ) → (v ≡ Ok (Admitted n)) ↔ ((number ≡ 0) × (report' ≡ n))
   admitted n = (
     λ is. (number_of is, report_of is),
-    λ (none, value). let (k, is) = admitted_of v (same ∙ none) in is ∙ ap Admitted (sym (report_of is) ∙ value),
+    λ (none, value). let (k, is) = admitted_of v (same ∙ none) in is ∙ ap (λ (k : ℕ). Ok (Admitted k)) (sym (report_of is) ∙ value),
   )
 
   denied : (m : ℕ) → (v ≡ Ok (Denied m)) ↔ ((number ≡ denied_number) × (report' ≡ m))
   denied m = (
     λ is. (number_of is, report_of is),
-    λ (eight, value). let (k, is) = denied_of v (same ∙ eight) in is ∙ ap Denied (sym (report_of is) ∙ value),
+    λ (eight, value). let (k, is) = denied_of v (same ∙ eight) in is ∙ ap (λ (k : ℕ). Ok (Denied k)) (sym (report_of is) ∙ value),
   )
 
 module _ {m : Lent} (sized : StateSized plainly m) {sheet work : List ℕ} {w : Write} {report number : ℕ} {work' : List ℕ} {report' : ℕ} where

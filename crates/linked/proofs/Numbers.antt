@@ -33,7 +33,7 @@ use Rattle.epochs.specs.Epoch.{epoch_there, epoch_number}
 use Rattle.tape.specs.Memory.{TapeDesk, tape_sound_for}
 use Rattle.tape.specs.Write.{tape_room_number, tape_write_number}
 use Rattle.tape.specs.Ending.{as_foretold, ending_number, tape_ending_number}
-use Rattle.rounds.specs.declared.RunError.TheVariants as run_answer
+use Rattle.rounds.specs.declared.RunError.TheVariants as run_error
 use Rattle.example.specs.Setup.{setup_number}
 use Rattle.rounds.specs.Valid.{app_valid}
 use Rattle.rounds.specs.Answer.{run_answer_number, RunAnswer}
@@ -131,7 +131,7 @@ run_answers image log work addr val0 val1 rounds =
   where
     of_run : (n : ℕ) → Answers n → (a : RunAnswer) × (run_answer_number a ≡ n)
     of_run n (Ok unit, e) = (done, e)
-    of_run n (Err why, e) = (Err (run_answer.Refused why), e)
+    of_run n (Err why, e) = (Err (run_error.Refused why), e)
 
 -- what a cut answers with such a number
 pub cut_answered : (kept n : ℕ) → Answers n → (a : Counted) × (counted_report a ≡ cut_told kept n)
