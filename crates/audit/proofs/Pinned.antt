@@ -1,7 +1,7 @@
 -- No call of the library leaves a choice: of the answer with what it reports, nor of any memory that it is lent. The viewer's part is pinned in `region`
 -- (`viewed_once`). Assumes nothing.
 use Prim.Native.Nat.{ℕ}
-use mathlib.Core.Path.{◌≡◌, refl, sym, ap}
+use mathlib.Core.Path.{◌≡◌, sym, ap}
 use mathlib.Core.List.{List}
 use denote.Ref.{MutBor}
 use Rattle.std.specs.Prelude.{Ok, Err}
