@@ -1,5 +1,4 @@
--- Laws of the readers: when a field is there and when the bytes are cut short, and what the answers of `take_field` and `take_pair` say
--- of what was read. Assumes nothing.
+-- Laws of the readers: when a field is there and when the bytes are cut short, and what was read before. Assumes nothing.
 use mathlib.Core.Path.{◌≡◌, refl, sym, ap, ◌∙◌}
 use mathlib.Core.Bool.{Bool, true, false}
 use mathlib.Core.List.{List}
@@ -9,11 +8,7 @@ use native.Mathlib.Numerals.{add-one}
 use lib.Dec.{leb}
 use lib.Pow.{pow-add}
 use borrow.Author.Tests.{lt-leb, le-leb}
-use Rattle.bits.specs.Bits.{bit_count, field, Found, malformed, got, on_got, only_if, read_field, read_pair, field_told, pair_told}
-use Rattle.bits.specs.declared.Field.{Field}
-use Rattle.bits.specs.declared.Field.TheVariants.{Malformed, Bits}
-use Rattle.bits.specs.declared.pairs.Pair.{Pair}
-use Rattle.bits.specs.declared.pairs.Pair.TheVariants.{Malformed as Malformed_pair, Both}
+use Rattle.bits.specs.Bits.{bit_count, field, Found, malformed, got, on_got, only_if, read_field}
 
 -- A field.
 
@@ -24,18 +19,6 @@ field_cut n s at h = rw (lt-leb (at + n) (bit_count s) h)
 pub field_there : (n : ℕ) (s : List ℕ) (at : ℕ) → at + n ≤ bit_count s → read_field n s at ≡ got (field s at n) (at + n)
 unfolding read_field
 field_there n s at h = rw (le-leb (at + n) (bit_count s) h)
-
--- what was found, of what the code tells
-abbrev pub field_of : Field → Found ℕ
-field_of Malformed = malformed
-field_of (Bits value next) = got value next
-
-pub took : (n : ℕ) (s : List ℕ) (at : ℕ) {x y : Field} → x ≡ field_told (read_field n s at) → x ≡ y → read_field n s at ≡ field_of y
-took n s at told e = back (read_field n s at) ∙ ap (λ (z : Field). field_of z) (sym told ∙ e)
-  where
-    back : (f : Found ℕ) → f ≡ field_of (field_told f)
-    back malformed = refl
-    back (got value next) = refl
 
 -- A field of n bits is below 2 ^ n.
 pub field_lt : (s : List ℕ) (at n : ℕ) → field s at n < 2 ^ n
@@ -55,25 +38,6 @@ field_got_lt n s at {v} {next} e =
     let read : ◌≡◌ {A = Found ℕ} (got (field s at n) (at + n)) (got v next) = (only_if_got (leb (at + n) (bit_count s)) (got (field s at n) (at + n)) e).1 in
     let same_value : field s at n ≡ v = cc in
     rw same_value at (field_lt s at n)
-
--- Two fields, and what is read after them.
-
-abbrev pub on_pair : {B : Type 0} → Pair → ((first second next : ℕ) → Found B) → Found B
-on_pair Malformed_pair k = malformed
-on_pair (Both a b next) k = k a b next
-
-pub took_pair : {B : Type 0} (m n : ℕ) (s : List ℕ) (at : ℕ) (k : (first second next : ℕ) → Found B) {x y : Pair} → x ≡ pair_told (read_pair m n s at) → x ≡ y
-    → on_got (read_field m s at) (λ a next. on_got (read_field n s next) (λ b end. k a b end)) ≡ on_pair y k
-took_pair m n s at k told e = first (read_field m s at) ∙ ap (λ (p : Pair). on_pair p k) (sym told ∙ e)
-  where
-    second : (a : ℕ) (f : Found ℕ) → on_got f (λ b end. k a b end) ≡ on_pair (pair_told (on_got f (λ b end. got (a, b) end))) k
-    second a malformed = refl
-    second a (got b end) = refl
-
-    first : (f : Found ℕ) → on_got f (λ a next. on_got (read_field n s next) (λ b end. k a b end))
-        ≡ on_pair (pair_told (on_got f (λ a next. on_got (read_field n s next) (λ b end. got (a, b) end)))) k
-    first malformed = refl
-    first (got a next) = second a (read_field n s next)
 
 -- What is got, if anything is, has P, with the place behind it.
 

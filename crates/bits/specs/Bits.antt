@@ -1,9 +1,5 @@
 -- The bits of bytes, most significant first, and readers that go over them from a bit position. Nothing here says what the bytes are for.
-use Rattle.std.specs.Prelude.{ℕ, zero, suc, ◌+◌, ◌-◌, ◌*◌, ◌/◌, ◌%◌, ◌^◌, Bool, true, false, List, leb, length, get_or}
-use Rattle.bits.specs.declared.Field.{Field}
-use Rattle.bits.specs.declared.Field.TheVariants.{Malformed, Bits}
-use Rattle.bits.specs.declared.pairs.Pair.{Pair}
-use Rattle.bits.specs.declared.pairs.Pair.TheVariants.{Malformed as Malformed_pair, Both}
+use Rattle.std.specs.Prelude.{ℕ, zero, suc, ◌+◌, ◌-◌, ◌*◌, ◌/◌, ◌%◌, ◌^◌, Bool, true, false, List, Option, Some, None, leb, length, get_or}
 
 abbrev pub byte_bits : ℕ
 byte_bits = 8
@@ -52,18 +48,7 @@ only_if false f = malformed
 unfoldable pub read_field : ℕ → Reader ℕ
 read_field n s at = only_if (leb (at + n) (bit_count s)) (got (field s at n) (at + n))
 
--- Two fields, one behind the other.
-abbrev pub read_pair : (first second : ℕ) → Reader (ℕ × ℕ)
-read_pair m n = do
-  a ← read_field m
-  b ← read_field n
-  give (a, b)
-
--- What was found, as the code tells it.
-abbrev pub field_told : Found ℕ → Field
-field_told malformed = Malformed
-field_told (got value next) = Bits value next
-
-abbrev pub pair_told : Found (ℕ × ℕ) → Pair
-pair_told malformed = Malformed_pair
-pair_told (got p next) = Both p.0 p.1 next
+-- What the code has found: its answer, and where it stands after it.
+abbrev pub taken : {A : Type 0} → Option A → (next : ℕ) → Found A
+taken None next = malformed
+taken (Some a) next = got a next

@@ -3,11 +3,10 @@
 
 #![tactic(auto)]
 
-pub mod pairs;
 pub mod reader;
 
-ghost use Rattle.std.specs.Prelude.{◌≡◌, ◌≤◌, ◌<◌, ◌^◌, get_or};
-ghost use Rattle.bits.specs.Bits.{max_width, bit_count, field, read_field, field_told};
+ghost use Rattle.std.specs.Prelude.{◌≡◌, ◌≤◌, ◌<◌, get_or};
+ghost use Rattle.bits.specs.Bits.{max_width, field};
 
 pub const BYTE_BITS: usize = 8;
 
@@ -15,22 +14,11 @@ const BYTE_VALUES: usize = 256;
 
 const WINDOW_BITS: usize = 3 * BYTE_BITS;
 
-// What taking a field finds: bytes that are cut short, or the field's number and the bit position after it.
-#[derive(Clone, Copy)]
-pub enum Field {
-    Malformed,
-    Bits { value: usize, next: usize },
-}
-
 // A byte, and 0 past the end.
 fn byte_at(bytes: &[u8], i: usize) -> usize
     ensures { (result ≡ get_or bytes.now i 0) × (result < 256) }
 {
-    if i < bytes.len() {
-        bytes[i] as usize
-    } else {
-        0
-    }
+    bytes.get(i).map_or(0, |byte| *byte as usize)
 }
 
 // A field of at most 16 bits lies in three bytes, wherever it starts. Bits past the end are 0.
@@ -42,22 +30,4 @@ pub fn field_at(bytes: &[u8], at: usize, width: usize) -> usize
     let window = (byte_at(bytes, i) * BYTE_VALUES + byte_at(bytes, i + 1)) * BYTE_VALUES
         + byte_at(bytes, i + 2);
     (window >> (WINDOW_BITS - at % BYTE_BITS - width)) % (1 << width)
-}
-
-// A field that the bytes have whole, and where the next one starts.
-pub fn whole_field(bytes: &[u8], at: usize, width: usize) -> Field
-    requires { (bit_count bytes.now < 2 ^ 64) × (width ≤ max_width) }
-    ensures { result ≡ field_told (read_field width bytes.now at) }
-{
-    let bits = bytes.len() * BYTE_BITS;
-    if bits < at {
-        return Field::Malformed;
-    }
-    if bits - at < width {
-        return Field::Malformed;
-    }
-    Field::Bits {
-        value: field_at(bytes, at, width),
-        next: at + width,
-    }
 }

@@ -1,36 +1,49 @@
-// A reader over bytes that holds where it stands: a struct with the bytes and a bit position, taken
-// apart to take a field; `take_field` is what others call.
+// A reader of bits: bytes, and the bit position where it stands. It takes a field where it stands and moves past it.
 // Proved: what is taken is the field that `specs/Bits.antt` reads. Assumed: nothing.
-ghost use Rattle.std.specs.Prelude.{◌≡◌, ◌≤◌, ◌<◌, ◌^◌};
-ghost use Rattle.bits.specs.Bits.{max_width, bit_count, read_field, field_told};
+ghost use Rattle.std.specs.Prelude.{◌≡◌, ◌≤◌, ◌<◌, ◌^◌, ◌*◌, ◌-◌, IsNone, Option};
+ghost use Rattle.bits.specs.Bits.{max_width, bit_count, read_field, taken};
 
-use crate::{Field, whole_field};
+use crate::{BYTE_BITS, field_at};
 
-#[derive(Drop)]
+// It stands among the bits of its bytes or at their end, and these can be counted in a usize.
+#[derive(Clone, Copy)]
 pub struct BitReader<'a> {
     pub bytes: &'a [u8],
     pub at: usize,
+    ghost among: { at ≤ bit_count bytes.now },
+    ghost counted: { bit_count bytes.now < 2 ^ 64 },
 }
 
-// A reader that stands at a bit position.
-pub fn standing<'a>(bytes: &'a [u8], at: usize) -> BitReader<'a>
-    ensures { (result.bytes ≡ bytes.entry) × (result.at ≡ at) }
-{
-    BitReader { bytes, at }
-}
+impl<'a> BitReader<'a> {
+    // A reader that stands at the first bit.
+    pub fn new(bytes: &'a [u8]) -> BitReader<'a>
+        requires { bit_count bytes.now < 2 ^ 64 }
+        ensures { (result.bytes ≡ bytes.entry) × (result.at ≡ 0) }
+    {
+        BitReader { bytes, at: 0 }
+    }
 
-// The field where the reader stands, if the bytes have it whole, and where the next one starts.
-pub fn next_field<'a>(r: BitReader<'a>, width: usize) -> Field
-    requires { (bit_count r.bytes.now < 2 ^ 64) × (width ≤ max_width) }
-    ensures { result ≡ field_told (read_field width r.entry.bytes.now r.entry.at) }
-{
-    whole_field(r.bytes, r.at, width)
-}
+    // How many bits are left.
+    #[inline]
+    pub fn left(&self) -> usize
+        ensures { result ≡ bit_count self.now.bytes.now - self.now.at }
+    {
+        self.bytes.len() * BYTE_BITS - self.at
+    }
 
-// The same of bytes and a bit position.
-pub fn take_field(bytes: &[u8], at: usize, width: usize) -> Field
-    requires { (bit_count bytes.now < 2 ^ 64) × (width ≤ max_width) }
-    ensures { result ≡ field_told (read_field width bytes.now at) }
-{
-    next_field(standing(bytes, at), width)
+    // The field where the reader stands, if the bytes have it whole; the reader moves past it, and stays where it is if they haven't.
+    #[inline]
+    pub fn take(&mut self, width: usize) -> Option<usize>
+        requires { width ≤ max_width }
+        ensures field { taken result self.new.at ≡ read_field width self.old.bytes.now self.old.at }
+        ensures bytes { self.new.bytes ≡ self.old.bytes }
+        ensures stays { IsNone result → self.new.at ≡ self.old.at }
+    {
+        if self.left() < width {
+            return None;
+        }
+        let value = field_at(self.bytes, self.at, width);
+        self.at += width;
+        Some(value)
+    }
 }
