@@ -10,11 +10,10 @@ use mathlib.Core.Option.{Option, none, some}
 use lib.Dec.{leb, ltb}
 use lib.ListN.{length, get_or}
 use borrow.Author.Tests.{le-leb, lt-leb}
-use Rattle.region.specs.Answer.{unless}
-use Rattle.sheet.specs.Sheet.{Clause, range, same, Rule, clause, group, Rules, nil, cons, Kind, clause_holds, join, holds, members_hold, read_sheet, well_formed, obeys, allows, rule_holds, is_rule, judged_number, sheet_number}
-use Rattle.sheet.specs.Inner.{judged_by, judged}
-use Rattle.sheet.specs.declared.Judged.{Judged}
-use Rattle.sheet.specs.declared.Judged.TheVariants.{Malformed, Obeys, Breaks}
+use Rattle.region.specs.Answer.{Answer, answer_number, done, unless}
+use Rattle.region.specs.declared.Refusal.TheVariants.{BadSheet, BrokenImage}
+use Rattle.std.specs.Prelude.{Err}
+use Rattle.sheet.specs.Sheet.{Clause, range, same, Rule, clause, group, Rules, nil, cons, Kind, clause_holds, join, holds, members_hold, read_sheet, well_formed, obeys, allows, rule_holds, is_rule, sheet_number}
 
 -- A sheet of edition 1 looks at the image after alone.
 
@@ -49,40 +48,31 @@ before_unseen s before other after = go (read_sheet s)
 abbrev by_tests : (formed obeyed : Bool) → ℕ
 by_tests formed obeyed = unless formed 5 (unless obeyed 6 0)
 
-pub number_of_judged : (s image : List ℕ) → judged_number (judged s image) ≡ sheet_number s image
-unfolding judged
-number_of_judged s image = go (well_formed s) (allows s image)
-  where
-    go : (formed obeyed : Bool) → judged_number (judged_by formed obeyed) ≡ by_tests formed obeyed
-    go false obeyed = refl
-    go true true = refl
-    go true false = refl
-
 module _ (s image : List ℕ) where
   unseen : (before : List ℕ) → sheet_number s image ≡ by_tests (well_formed s) (obeys s before image)
   unseen before = ap (by_tests (well_formed s)) (before_unseen s image before image)
 
-  module _ {r : Judged} (told : judged_number r ≡ sheet_number s image) where
-    pub told_malformed : r ≡ Malformed → well_formed s ≡ false
-    told_malformed is = go (well_formed s) (allows s image) (sym (ap judged_number is) ∙ told)
+  module _ {r : Answer} (told : answer_number r ≡ sheet_number s image) where
+    pub told_malformed : r ≡ Err BadSheet → well_formed s ≡ false
+    told_malformed is = go (well_formed s) (allows s image) (sym (ap answer_number is) ∙ told)
       where
-        go : (formed obeyed : Bool) → judged_number Malformed ≡ by_tests formed obeyed → formed ≡ false
+        go : (formed obeyed : Bool) → answer_number (Err BadSheet) ≡ by_tests formed obeyed → formed ≡ false
         go false obeyed e = refl
         go true true e = absurd (omega (arith, e))
         go true false e = absurd (omega (arith, e))
 
-    pub told_obeys : r ≡ Obeys → (before : List ℕ) → (well_formed s ≡ true) × (obeys s before image ≡ true)
-    told_obeys is before = go (well_formed s) (obeys s before image) (sym (ap judged_number is) ∙ told ∙ unseen before)
+    pub told_obeys : r ≡ done → (before : List ℕ) → (well_formed s ≡ true) × (obeys s before image ≡ true)
+    told_obeys is before = go (well_formed s) (obeys s before image) (sym (ap answer_number is) ∙ told ∙ unseen before)
       where
-        go : (formed obeyed : Bool) → judged_number Obeys ≡ by_tests formed obeyed → (formed ≡ true) × (obeyed ≡ true)
+        go : (formed obeyed : Bool) → answer_number done ≡ by_tests formed obeyed → (formed ≡ true) × (obeyed ≡ true)
         go false obeyed e = absurd (omega (arith, e))
         go true true e = (refl, refl)
         go true false e = absurd (omega (arith, e))
 
-    pub told_breaks : r ≡ Breaks → (before : List ℕ) → (well_formed s ≡ true) × (obeys s before image ≡ false)
-    told_breaks is before = go (well_formed s) (obeys s before image) (sym (ap judged_number is) ∙ told ∙ unseen before)
+    pub told_breaks : r ≡ Err BrokenImage → (before : List ℕ) → (well_formed s ≡ true) × (obeys s before image ≡ false)
+    told_breaks is before = go (well_formed s) (obeys s before image) (sym (ap answer_number is) ∙ told ∙ unseen before)
       where
-        go : (formed obeyed : Bool) → judged_number Breaks ≡ by_tests formed obeyed → (formed ≡ true) × (obeyed ≡ false)
+        go : (formed obeyed : Bool) → answer_number (Err BrokenImage) ≡ by_tests formed obeyed → (formed ≡ true) × (obeyed ≡ false)
         go false obeyed e = absurd (omega (arith, e))
         go true true e = absurd (omega (arith, e))
         go true false e = (refl, refl)

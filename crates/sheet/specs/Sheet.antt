@@ -5,8 +5,6 @@ use Rattle.std.specs.Prelude.{ℕ, zero, suc, ◌-◌, max, Bool, true, false, �
 use Rattle.std.proofs.Math.Option.{Option, none, some}
 use Rattle.region.specs.Answer.{unless}
 use Rattle.bits.specs.Bits.{byte_bits, bit_count, field, Found, malformed, got, Reader, ◌>>=◌, give, only_if, read_field}
-use Rattle.sheet.specs.declared.Judged.{Judged}
-use Rattle.sheet.specs.declared.Judged.TheVariants.{Malformed, Obeys, Breaks}
 
 -- The numbers of the format, each once.
 
@@ -201,12 +199,6 @@ obeys s before after = rule_holds (read_sheet s) before after
 -- An image that the sheet allows is one that obeys it, compared with itself: an opening asks this, and edition 1 never more.
 abbrev pub allows : (sheet image : List ℕ) → Bool
 allows s image = obeys s image image
-
--- document 01's number for each case of the answer
-abbrev pub judged_number : Judged → ℕ
-judged_number Malformed = 5
-judged_number Breaks = 6
-judged_number Obeys = 0
 
 -- What judging one image by a sheet answers. No image has a part in 5.
 abbrev pub sheet_number : (sheet image : List ℕ) → ℕ

@@ -16,36 +16,32 @@ pub enum Clause {
     },
 }
 
+#[tactic(auto, unfolding(crate::specs::Sheet::clause_holds))]
 fn range_holds(image: &[u8], address: usize, low: usize, high: usize) -> bool
     ensures { result ≡ clause_holds (range address low high) image.now image.now }
 {
-    if image.len() <= address {
-        return false;
-    }
-    let byte = image[address] as usize;
-    if byte < low {
-        return false;
-    }
-    byte <= high
+    image
+        .get(address)
+        .is_some_and(|byte| low <= *byte as usize && *byte as usize <= high)
 }
 
+#[tactic(auto, unfolding(crate::specs::Sheet::clause_holds))]
 fn same_holds(image: &[u8], first: usize, second: usize) -> bool
     ensures { result ≡ clause_holds (same first second) image.now image.now }
 {
-    if image.len() <= first {
-        return false;
+    match (image.get(first), image.get(second)) {
+        (Some(byte), Some(other)) => *byte == *other,
+        _ => false,
     }
-    if image.len() <= second {
-        return false;
-    }
-    image[first] == image[second]
 }
 
-pub fn clause_holds(image: &[u8], clause: Clause) -> bool
-    ensures { result ≡ clause_holds (clause_of clause) image.now image.now }
-{
-    match clause {
-        Clause::Range { address, low, high } => range_holds(image, address, low, high),
-        Clause::Same { first, second } => same_holds(image, first, second),
+impl Clause {
+    pub fn holds(self, image: &[u8]) -> bool
+        ensures { result ≡ clause_holds (clause_of self) image.now image.now }
+    {
+        match self {
+            Clause::Range { address, low, high } => range_holds(image, address, low, high),
+            Clause::Same { first, second } => same_holds(image, first, second),
+        }
     }
 }

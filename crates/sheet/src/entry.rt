@@ -1,13 +1,13 @@
 // The entries of a sheet, read where they lie; no image has a part in it. Proved: what is read is `read_entry` of `specs/Sheet.antt`.
 // Assumed: nothing.
-ghost use Rattle.std.specs.Prelude.{◌≡◌, ◌≤◌, length};
-ghost use Rattle.sheet.specs.Sheet.{max_bytes, read_range, read_entry};
-ghost use Rattle.sheet.specs.Inner.{entry_told};
+ghost use Rattle.std.specs.Prelude.{◌≡◌, option_map};
+ghost use Rattle.bits.specs.Bits.{taken};
+ghost use Rattle.sheet.specs.Sheet.{empty_holds, join, read_range, read_same, read_many, read_entry};
+ghost use Rattle.sheet.specs.Inner.{kind_of, entry_of};
 
 use crate::clause::Clause;
-use bits::pairs::{Pair, take_pair};
-use bits::reader::take_field;
-use bits::{BYTE_BITS, Field};
+use bits::BYTE_BITS;
+use bits::reader::BitReader;
 
 const TAG_BITS: usize = 2;
 
@@ -21,80 +21,80 @@ const ADDRESS_BITS: usize = 16;
 
 const COUNT_BITS: usize = 6;
 
-// What stands before a rule's members, and the bit position after it: a clause, or the head of a group of so many members.
+// A group's kind: all of its members hold, or any does.
+#[derive(Clone, Copy)]
+pub enum Kind {
+    All,
+    Any,
+}
+
+impl Kind {
+    // The truth of a group with no members.
+    #[tactic(auto, unfolding(crate::specs::Sheet::empty_holds))]
+    pub fn of_none(self) -> bool
+        ensures { result ≡ empty_holds (kind_of self) }
+    {
+        match self {
+            Kind::All => true,
+            Kind::Any => false,
+        }
+    }
+
+    // Two truths of a group as one.
+    #[tactic(auto, unfolding(crate::specs::Sheet::join))]
+    pub fn join(self, truth: bool, other: bool) -> bool
+        ensures { result ≡ join (kind_of self) truth other }
+    {
+        match self {
+            Kind::All => truth && other,
+            Kind::Any => truth || other,
+        }
+    }
+}
+
+// What stands before a rule's members: a clause, or the head of a group of so many members.
 #[derive(Clone, Copy)]
 pub enum Entry {
-    Malformed,
-    One {
-        clause: Clause,
-        next: usize,
-    },
-    Many {
-        all: bool,
-        count: usize,
-        next: usize,
-    },
+    One(Clause),
+    Many { kind: Kind, count: usize },
 }
 
-fn range_at(sheet: &[u8], at: usize) -> Entry
-    requires { length sheet.now ≤ max_bytes }
-    ensures { result ≡ entry_told (read_range sheet.now at) }
+fn take_range(reader: &mut BitReader<'_>) -> Option<Entry>
+    ensures entry { taken (option_map entry_of result) reader.new.at ≡ read_range reader.old.bytes.now reader.old.at }
+    ensures bytes { reader.new.bytes ≡ reader.old.bytes }
 {
-    let Field::Bits {
-        value: address,
-        next: behind,
-    } = take_field(sheet, at, ADDRESS_BITS)
-    else {
-        return Entry::Malformed;
-    };
-    let Pair::Both {
-        first: low,
-        second: high,
-        next,
-    } = take_pair(sheet, behind, BYTE_BITS, BYTE_BITS)
-    else {
-        return Entry::Malformed;
-    };
-    Entry::One {
-        clause: Clause::Range { address, low, high },
-        next,
-    }
+    let address = reader.take(ADDRESS_BITS)?;
+    let low = reader.take(BYTE_BITS)?;
+    let high = reader.take(BYTE_BITS)?;
+    Some(Entry::One(Clause::Range { address, low, high }))
 }
 
-pub fn entry_at(sheet: &[u8], at: usize) -> Entry
-    requires { length sheet.now ≤ max_bytes }
-    ensures { result ≡ entry_told (read_entry sheet.now at) }
+fn take_same(reader: &mut BitReader<'_>) -> Option<Entry>
+    ensures entry { taken (option_map entry_of result) reader.new.at ≡ read_same reader.old.bytes.now reader.old.at }
+    ensures bytes { reader.new.bytes ≡ reader.old.bytes }
 {
-    let Field::Bits {
-        value: tag,
-        next: tagged,
-    } = take_field(sheet, at, TAG_BITS)
-    else {
-        return Entry::Malformed;
-    };
-    if tag == RANGE_TAG {
-        return range_at(sheet, tagged);
-    }
-    if tag == SAME_TAG {
-        let Pair::Both {
-            first,
-            second,
-            next,
-        } = take_pair(sheet, tagged, ADDRESS_BITS, ADDRESS_BITS)
-        else {
-            return Entry::Malformed;
-        };
-        return Entry::One {
-            clause: Clause::Same { first, second },
-            next,
-        };
-    }
-    let Field::Bits { value: count, next } = take_field(sheet, tagged, COUNT_BITS) else {
-        return Entry::Malformed;
-    };
-    Entry::Many {
-        all: tag == ALL_TAG,
-        count,
-        next,
+    let first = reader.take(ADDRESS_BITS)?;
+    let second = reader.take(ADDRESS_BITS)?;
+    Some(Entry::One(Clause::Same { first, second }))
+}
+
+fn take_many(reader: &mut BitReader<'_>, kind: Kind) -> Option<Entry>
+    ensures entry { taken (option_map entry_of result) reader.new.at ≡ read_many (kind_of kind) reader.old.bytes.now reader.old.at }
+    ensures bytes { reader.new.bytes ≡ reader.old.bytes }
+{
+    let count = reader.take(COUNT_BITS)?;
+    Some(Entry::Many { kind, count })
+}
+
+// The entry where the reader stands. A tag has two bits, so one that is none of the first three is the last.
+pub fn take_entry(reader: &mut BitReader<'_>) -> Option<Entry>
+    ensures entry { taken (option_map entry_of result) reader.new.at ≡ read_entry reader.old.bytes.now reader.old.at }
+    ensures bytes { reader.new.bytes ≡ reader.old.bytes }
+{
+    match reader.take(TAG_BITS)? {
+        RANGE_TAG => take_range(reader),
+        SAME_TAG => take_same(reader),
+        ALL_TAG => take_many(reader, Kind::All),
+        _ => take_many(reader, Kind::Any),
     }
 }

@@ -7,12 +7,15 @@ mod clause;
 mod entry;
 mod rules;
 
-ghost use Rattle.std.specs.Prelude.{◌≡◌, ◌≤◌, length};
-ghost use Rattle.sheet.specs.Sheet.{max_bytes, filling, judged_number, sheet_number};
+ghost use Rattle.std.specs.Prelude.{◌≡◌};
+ghost use Rattle.region.specs.Answer.{answer_number};
+ghost use Rattle.sheet.specs.Sheet.{filling, sheet_number};
+ghost use Rattle.sheet.specs.Inner.{judged};
 
-use bits::reader::take_field;
-use bits::{BYTE_BITS, Field, field_at};
-use rules::{Step, judge_rule};
+use bits::reader::BitReader;
+use bits::{BYTE_BITS, field_at};
+use region::Refusal;
+use rules::judge_rule;
 
 const MAX_BYTES: usize = 512;
 
@@ -22,54 +25,38 @@ const EDITION_BITS: usize = 4;
 
 const EDITION: usize = 1;
 
-// The sheet says no rule, or the image obeys the rule that it says, or breaks it: document 01's 5, 0 and 6.
-#[derive(Clone, Copy)]
-pub enum Judged {
-    Malformed,
-    Obeys,
-    Breaks,
-}
-
 // Fewer than 8 bits are left, and each is 0.
-fn filled(sheet: &[u8], at: usize) -> bool
-    requires { length sheet.now ≤ max_bytes }
-    ensures { result ≡ filling sheet.now at }
+#[tactic(auto, unfolding(crate::specs::Sheet::filling))]
+fn filled(reader: &BitReader<'_>) -> bool
+    ensures { result ≡ filling reader.now.bytes.now reader.now.at }
 {
-    let bits = sheet.len() * BYTE_BITS;
-    if bits <= at {
-        return true;
-    }
-    let left = bits - at;
-    if BYTE_BITS <= left {
-        return false;
-    }
-    field_at(sheet, at, left) == 0
+    let left = reader.left();
+    left < BYTE_BITS && field_at(reader.bytes, reader.at, left) == 0
 }
 
-pub fn judge(sheet: &[u8], image: &[u8]) -> Judged
-    ensures { judged_number result ≡ sheet_number sheet.now image.now }
+// Whether the sheet's rule holds of the image, if it says one.
+fn rule_holds(sheet: &[u8], image: &[u8]) -> Option<bool>
+    ensures { result ≡ judged sheet.now image.now }
 {
     if MAX_BYTES < sheet.len() {
-        return Judged::Malformed;
+        return None;
     }
-    let Field::Bits {
-        value: edition,
-        next: at,
-    } = take_field(sheet, 0, EDITION_BITS)
-    else {
-        return Judged::Malformed;
-    };
+    let mut reader = BitReader::new(sheet);
+    let edition = reader.take(EDITION_BITS)?;
     if edition != EDITION {
-        return Judged::Malformed;
+        return None;
     }
-    let Step::Good { next: end, holds } = judge_rule(sheet, image, at, MAX_DEPTH) else {
-        return Judged::Malformed;
-    };
-    if !filled(sheet, end) {
-        return Judged::Malformed;
+    let holds = judge_rule(&mut reader, image, MAX_DEPTH)?;
+    filled(&reader).then_some(holds)
+}
+
+// The sheet says no rule, or the image breaks the rule that it says.
+pub fn judge(sheet: &[u8], image: &[u8]) -> Result<(), Refusal>
+    ensures { answer_number result ≡ sheet_number sheet.now image.now }
+{
+    match rule_holds(sheet, image) {
+        None => Err(Refusal::BadSheet),
+        Some(false) => Err(Refusal::BrokenImage),
+        Some(true) => Ok(()),
     }
-    if holds {
-        return Judged::Obeys;
-    }
-    Judged::Breaks
 }

@@ -1,54 +1,57 @@
 -- The loop of `judge_members` and the cases of `judge_rule`, by the laws of `Judging`. Assumes nothing.
-use Rattle.std.proofs.Common.{◌≡◌, sym, ◌∙◌, arith}
-use Rattle.sheet.specs.Sheet.{read_rule, read_members, join}
+use Rattle.std.proofs.Common.{◌≡◌, ◌+◌, ◌-◌, refl, suc, ◌∙◌, arith}
+use Rattle.sheet.specs.Sheet.{read_rule, read_members}
 use Rattle.sheet.specs.Inner.{kind_of}
-use Rattle.sheet.proofs.Judging.{no_levels, rule_by_entry, nothing_joined, none_left, member_malformed, member_judged, decided, undecided}
+use Rattle.sheet.proofs.Judging.{no_levels, no_entry, one_clause, many_members, nothing_joined, none_left, member_malformed, member_judged}
 use Rattle.sheet.proofs.rules.+judge_members_judge_rule.Goals as goal
-use Rattle.sheet.proofs.rules.+judge_members_judge_rule.Goals.{judge_members-then-holds-all, judge_members-else-holds-all}
 
-pub judge_members-loop-left-init : goal.judge_members-loop-left-init
-judge_members-loop-left-init t c = let a = c.args in nothing_joined a.all a.image.now (read_members a.count (read_rule a.levels) a.sheet.now a.at)
-
-pub judge_members-returns-in_default : goal.judge_members-returns-in_default
-judge_members-returns-in_default t c =
+pub judge_members-loop-init : goal.judge_members-loop-init
+judge_members-loop-init t c =
     let a = c.args in
-    sym (member_malformed (kind_of a.all) a.image.now (read_rule a.levels) a.sheet.now c.loop-left.truth c.loop-left.place
-    c.loop-left-test.true c.judge_rule.ensures c.in_default.is)
-    ∙ c.loop-left.invariant
+    let all_left : a.count - 0 ≡ a.count = omega arith in
+    (rw (all_left, c.of_none-truth.ensures) (nothing_joined (kind_of a.kind) a.image.now (read_members a.count (read_rule a.levels) a.reader.now.bytes.now a.reader.now.at)), refl)
 
-pub judge_members-loop-left-preserved : goal.judge_members-loop-left-preserved
-judge_members-loop-left-preserved t c =
+pub judge_members-returns-in_err-member-clause-truth : goal.judge_members-returns-in_err-member-clause-truth
+judge_members-returns-in_err-member-clause-truth t c =
     let a = c.args in
-    let joined : c.if-holds-all.truth ≡ join (kind_of a.all) c.loop-left.truth c.in-Good.holds =
-    elim c.if-holds-all.branch [
-      | judge_members-then-holds-all w ↦ w.truth-is ∙ decided a.all c.loop-left.truth c.in-Good.holds w.if-holds-all.true
-      | judge_members-else-holds-all w ↦ w.truth-is ∙ undecided a.all c.loop-left.truth c.in-Good.holds w.if-holds-all.false
-    ] in
-    rw joined
-    (sym (member_judged (kind_of a.all) a.image.now (read_rule a.levels) a.sheet.now c.loop-left.truth c.loop-left.place
-    c.loop-left-test.true c.judge_rule.ensures c.in-Good.is)
-    ∙ c.loop-left.invariant)
+    rw c.from_residual.ensures (member_malformed (kind_of a.kind) a.image.now (read_rule a.levels) c.loop.reader.bytes.now c.loop.truth c.loop.reader.at
+    (omega (arith, c.loop-test.true)) c.loop.invariant.0 c.in_err-member.ensures.truth)
 
-pub judge_members-returns : goal.judge_members-returns
-judge_members-returns t c =
+pub judge_members-loop-preserved : goal.judge_members-loop-preserved
+judge_members-loop-preserved t c =
     let a = c.args in
-    let none : c.loop-left.left ≡ 0 = omega arith in
-    sym (none_left (kind_of a.all) a.image.now (read_rule a.levels) a.sheet.now c.loop-left.truth c.loop-left.place none) ∙ c.loop-left.invariant
+    let one : a.count - (c.loop.counter + 1) ≡ a.count - c.loop.counter - 1 = omega arith in
+    let judged = member_judged (kind_of a.kind) a.image.now (read_rule a.levels) c.loop.reader.bytes.now c.loop.truth c.loop.reader.at
+    (omega (arith, c.loop-test.true)) c.loop.invariant.0 c.in_ok-member.ensures.truth in
+    (rw (c.join-truth.ensures, one, c.judge_rule.ensures.bytes) judged, c.judge_rule.ensures.bytes ∙ c.loop.invariant.1)
 
-pub judge_rule-returns-then-levels-eq0 : goal.judge_rule-returns-then-levels-eq0
-judge_rule-returns-then-levels-eq0 t c = let a = c.args in no_levels a.image.now a.sheet.now a.at c.if-levels-eq0.true
-
-pub judge_rule-returns-in-Malformed : goal.judge_rule-returns-in-Malformed
-judge_rule-returns-in-Malformed t c =
+pub judge_members-returns-clause-truth : goal.judge_members-returns-clause-truth
+judge_members-returns-clause-truth t c =
     let a = c.args in
-    rule_by_entry a.image.now a.sheet.now a.at a.levels c.if-levels-eq0.false c.entry_at.ensures c.in-Malformed.is
+    let none : a.count - c.loop.counter ≡ 0 = omega (arith, c.loop-test.false) in
+    none_left (kind_of a.kind) a.image.now (read_rule a.levels) c.loop.reader.bytes.now c.loop.truth c.loop.reader.at none c.loop.invariant.0
 
-pub judge_rule-returns-in-One : goal.judge_rule-returns-in-One
-judge_rule-returns-in-One t c =
+pub judge_rule-returns-in_err-deeper-clause-truth : goal.judge_rule-returns-in_err-deeper-clause-truth
+judge_rule-returns-in_err-deeper-clause-truth t c =
     let a = c.args in
-    rw c.clause_holds.ensures (rule_by_entry a.image.now a.sheet.now a.at a.levels c.if-levels-eq0.false c.entry_at.ensures c.in-One.is)
+    rw c.from_residual.ensures (no_levels a.image.now a.reader.now.bytes.now a.reader.now.at (omega (arith, c.in_err-deeper.ensures)))
 
-pub judge_rule-returns-in-Many : goal.judge_rule-returns-in-Many
-judge_rule-returns-in-Many t c =
+pub judge_rule-returns-in_err-clause-clause-truth : goal.judge_rule-returns-in_err-clause-clause-truth
+judge_rule-returns-in_err-clause-clause-truth t c =
     let a = c.args in
-    rw c.judge_members.ensures (rule_by_entry a.image.now a.sheet.now a.at a.levels c.if-levels-eq0.false c.entry_at.ensures c.in-Many.is)
+    let deeper : suc c.in_ok-deeper.deeper ≡ a.levels = omega (arith, c.in_ok-deeper.ensures) in
+    rw c.from_residual-in_err-clause.ensures (no_entry a.image.now a.reader.now.bytes.now a.reader.now.at deeper c.in_err-clause.ensures.entry)
+
+pub judge_rule-returns-in-One-clause-truth : goal.judge_rule-returns-in-One-clause-truth
+judge_rule-returns-in-One-clause-truth t c =
+    let a = c.args in
+    let deeper : suc c.in_ok-deeper.deeper ≡ a.levels = omega (arith, c.in_ok-deeper.ensures) in
+    let entry = rw c.in-One.is at c.in_ok-clause.ensures.entry in
+    rw c.holds.ensures (one_clause a.image.now a.reader.now.bytes.now a.reader.now.at deeper entry)
+
+pub judge_rule-returns-in-Many-clause-truth : goal.judge_rule-returns-in-Many-clause-truth
+judge_rule-returns-in-Many-clause-truth t c =
+    let a = c.args in
+    let deeper : suc c.in_ok-deeper.deeper ≡ a.levels = omega (arith, c.in_ok-deeper.ensures) in
+    let entry = rw c.in-Many.is at c.in_ok-clause.ensures.entry in
+    rw (c.judge_members.ensures.truth, c.take_entry.ensures.bytes) (many_members a.image.now a.reader.now.bytes.now a.reader.now.at deeper entry)
