@@ -18,7 +18,7 @@ const WINDOW_BITS: usize = 3 * BYTE_BITS;
 fn byte_at(bytes: &[u8], i: usize) -> usize
     ensures { (result ≡ get_or bytes.now i 0) × (result < 256) }
 {
-    bytes.get(i).map_or(0, |byte| *byte as usize)
+    bytes.get(i).map_or(0, |&byte| byte as usize)
 }
 
 // A field of at most 16 bits lies in three bytes, wherever it starts. Bits past the end are 0.

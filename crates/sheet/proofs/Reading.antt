@@ -5,7 +5,7 @@ use Prim.Native.Nat.{ℕ, ◌<◌}
 use native.Mathlib.Omega.{arith}
 use Rattle.bits.specs.Bits.{got, read_field}
 use Rattle.bits.proofs.Reading.{field_got_lt}
-use Rattle.sheet.specs.Sheet.{Kind, all, any, tag_bits, read_range, read_same, read_many, read_tagged, read_entry}
+use Rattle.sheet.specs.Sheet.{all, any, tag_bits, read_range, read_same, read_many, read_tagged, read_entry}
 
 module _ (s : List ℕ) (at : ℕ) {tag next : ℕ} (read : read_field tag_bits s at ≡ got tag next) where
   tagged : read_entry s at ≡ read_tagged tag s next

@@ -22,7 +22,7 @@ fn range_holds(image: &[u8], address: usize, low: usize, high: usize) -> bool
 {
     image
         .get(address)
-        .is_some_and(|byte| low <= *byte as usize && *byte as usize <= high)
+        .is_some_and(|&byte| low <= byte as usize && byte as usize <= high)
 }
 
 #[tactic(auto, unfolding(crate::specs::Sheet::clause_holds))]
