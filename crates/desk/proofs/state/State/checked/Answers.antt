@@ -30,11 +30,11 @@ pub returns-then-image-gt-IMAGE_LIMIT : goal.returns-then-image-gt-IMAGE_LIMIT
 returns-then-image-gt-IMAGE_LIMIT c =
     let a = c.args in (
       unsound a.image a.self.now a.log (λ s.
-      elim c.then-image-gt-IMAGE_LIMIT.branch [
-        | then-image-gt-IMAGE_LIMIT-via-then-image-gt-IMAGE_LIMIT w ↦ omega (arith, s.short, w.if-image-gt-IMAGE_LIMIT)
-        | then-image-gt-IMAGE_LIMIT-via-else-image-gt-IMAGE_LIMIT+then-log-ne-LOG_LIMIT w ↦ w.if-log-ne-LOG_LIMIT.true s.buffer
-        | then-image-gt-IMAGE_LIMIT-via-else-image-gt-IMAGE_LIMIT+else-log-ne-LOG_LIMIT+then-self-gt-WRITES_LIMIT w ↦ omega (arith, s.few, w.if-self-gt-WRITES_LIMIT)
-      ]),
+          elim c.then-image-gt-IMAGE_LIMIT.branch [
+            | then-image-gt-IMAGE_LIMIT-via-then-image-gt-IMAGE_LIMIT w ↦ omega (arith, s.short, w.if-image-gt-IMAGE_LIMIT)
+            | then-image-gt-IMAGE_LIMIT-via-else-image-gt-IMAGE_LIMIT+then-log-ne-LOG_LIMIT w ↦ w.if-log-ne-LOG_LIMIT.true s.buffer
+            | then-image-gt-IMAGE_LIMIT-via-else-image-gt-IMAGE_LIMIT+else-log-ne-LOG_LIMIT+then-self-gt-WRITES_LIMIT w ↦ omega (arith, s.few, w.if-self-gt-WRITES_LIMIT)
+          ]),
       search rules,
     )
 
@@ -54,13 +54,13 @@ returns-then-not-within c =
     let rs = c.outstanding-r-items.result.now in
     let all : rs ≡ log_records a.self.now = c.outstanding-r-items.ensures.records in (
       unsound a.image a.self.now a.log (λ s.
-      elim c.then-not-within.branch [
-        | then-not-within-via-then-not-within w ↦
-            let bad : c.within.result ≡ false = cc in
-            false≢true (sym (inside_here a.image rs l.r-index c.loop-r-test.true l.invariant.2 ∙ and_unless _ _ (sym c.within.ensures ∙ bad)) ∙ ap (records_inside a.image) all ∙ s.inside)
-        | then-not-within-via-else-not-within+then-used-r w ↦
-            omega (arith, counted rs l.r-index l.used c.loop-r-test.true l.invariant.1, ap together all, s.room, w.if-used-r)
-      ]),
+          elim c.then-not-within.branch [
+            | then-not-within-via-then-not-within w ↦
+                let bad : c.within.result ≡ false = cc in
+                false≢true (sym (inside_here a.image rs l.r-index c.loop-r-test.true l.invariant.2 ∙ and_unless _ _ (sym c.within.ensures ∙ bad)) ∙ ap (records_inside a.image) all ∙ s.inside)
+            | then-not-within-via-else-not-within+then-used-r w ↦
+                omega (arith, counted rs l.r-index l.used c.loop-r-test.true l.invariant.1, ap together all, s.room, w.if-used-r)
+          ]),
       search rules,
     )
 
