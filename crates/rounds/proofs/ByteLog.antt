@@ -14,7 +14,8 @@ use Rattle.region.specs.Pmemspec.{update_bytes}
 use Rattle.region.proofs.Booleans.{both, both_true}
 use Rattle.pieces.specs.AsyncSpec.{Write, write_of, AsyncView, apply_write_selective, flush_writes, flush_writes_selective, readable, CanCrash}
 use Rattle.pieces.specs.Choice.{touched, points}
-use Rattle.pieces.proofs.Laid.{lay, update_is_lay, lay_none, lay_kept, lay_lost}
+use Rattle.pieces.specs.Laid.{lay}
+use Rattle.pieces.proofs.Laid.{update_is_lay, lay_none, lay_kept, lay_lost}
 use Rattle.rounds.specs.Valid.{one_of, app_valid}
 
 -- the write of one byte
