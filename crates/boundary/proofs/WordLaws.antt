@@ -9,7 +9,7 @@ use Rattle.region.specs.Limits.{writes_limit}
 use Rattle.desk.specs.State.{no_record}
 use Rattle.records.specs.Words.{records_of}
 use Rattle.records.specs.declared.Record.{Record}
-use Rattle.records.proofs.ListWords.{records_back, length_record_words, words_back, length_records, addr_at, len_at, record_at, front_more, pair_more}
+use Rattle.records.proofs.ListWords.{records_back, length_record_words, words_back, length_records, addr_at, len_at, record_at, pair_more}
 use Rattle.desk.specs.declared.state.State.{State}
 use Rattle.boundary.specs.Words.{state_words, state_of, words_of}
 
@@ -32,17 +32,13 @@ module _ (words : List ℕ) (sized : length words ≡ state_words) where
   pub said_length : length said ≡ writes_limit
   said_length = length_records writes_limit (drop 1 words) rest_length
 
-  said_at : (i : ℕ) → record { addr = get_or words (1 + 2 * i) 0; len = get_or words (1 + 2 * i + 1) 0 } ≡ get_or said i no_record
+  pub said_at : (i : ℕ) → record { addr = get_or words (1 + 2 * i) 0; len = get_or words (1 + 2 * i + 1) 0 } ≡ get_or said i no_record
   said_at i =
       let k : 1 + 2 * i + 1 ≡ 1 + (2 * i + 1) = omega arith in
       sym (ap₂ (λ (addr len : ℕ). record { addr = addr; len = len })
       (get_or-drop 1 words (2 * i) 0)
       (get_or-drop 1 words (2 * i + 1) 0 ∙ ap (λ (j : ℕ). get_or words j 0) (sym k)))
       ∙ record_at writes_limit (drop 1 words) i rest_length
-
-  pub load_more : (records : List Record) (i : ℕ) → length records ≡ writes_limit → i < writes_limit → take i records ≡ take i said
-      → take (i + 1) (set records i (record { addr = get_or words (1 + 2 * i) 0; len = get_or words (1 + 2 * i + 1) 0 })) ≡ take (i + 1) said
-  load_more records i full h front = front_more records said i no_record (omega arith) (omega (arith, said_length)) (said_at i) front
 
 -- and written one record at a time
 module _ (st : State) (sized : length st.records ≡ writes_limit) where

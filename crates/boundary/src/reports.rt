@@ -6,7 +6,7 @@ ghost use Rattle.gate.specs.Judgement.{verdict_report};
 ghost use Rattle.boundary.specs.Words.{reported};
 
 use gate::Verdict;
-use region::numbers::refusal_number;
+use region::Refusal;
 
 // A verdict's number; its n or m goes to `report`.
 pub fn verdict_number(verdict: Result<Verdict, Refusal>, report: &mut u64) -> u64
@@ -21,7 +21,7 @@ pub fn verdict_number(verdict: Result<Verdict, Refusal>, report: &mut u64) -> u6
             *report = m as u64;
             8
         }
-        Err(why) => refusal_number(why),
+        Err(why) => why.into(),
     }
 }
 
@@ -34,6 +34,6 @@ pub fn cut_number(answer: Result<usize, Refusal>, report: &mut u64) -> u64
             *report = kept as u64;
             0
         }
-        Err(why) => refusal_number(why),
+        Err(refusal) => refusal.into(),
     }
 }

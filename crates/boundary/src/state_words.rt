@@ -1,10 +1,13 @@
 // The state as words: the count, then address and length of each record. `loaded` and `stored` undo
 // each other on a state of the right length (proofs/WordLaws.antt).
-ghost use Rattle.std.specs.Prelude.{◌≡◌, length};
+ghost use Rattle.std.specs.Prelude.{◌≡◌, ◌<◌, length, get_or, drop};
+ghost use Rattle.region.specs.Limits.{writes_limit};
+ghost use Rattle.records.specs.Record.{no_record};
+ghost use Rattle.records.specs.Words.{records_of};
 ghost use Rattle.boundary.specs.Words.{state_words, state_of, words_of};
 
 use desk::state::State;
-use records::{LIST_WORDS, RECORD_WORDS, Record};
+use records::{LIST_WORDS, NO_RECORD, RECORD_WORDS, Record};
 use region::WRITES_LIMIT;
 
 pub const STATE_WORDS: usize = 1 + LIST_WORDS;
@@ -21,19 +24,25 @@ pub fn loaded(words: &[u64]) -> State
     requires { length words.now ≡ state_words }
     ensures { result ≡ state_of words.now }
 {
-    let none = Record { addr: 0, len: 0 };
-    let mut records = [none; WRITES_LIMIT];
-    let mut i = 0;
-    while i < WRITES_LIMIT {
-        let at = 1 + RECORD_WORDS * i;
-        let addr = words[at] as usize;
-        let len = words[at + 1] as usize;
-        records[i] = Record { addr, len };
-        i += 1;
+    let mut records = [NO_RECORD; WRITES_LIMIT];
+    for (i, r) in records.iter_mut().enumerate() {
+        *r = record_at(words, i);
     }
     State {
         count: words[0] as usize,
         records,
+    }
+}
+
+// The record that stands at index i among them.
+fn record_at(words: &[u64], i: usize) -> Record
+    requires { (length words.now ≡ state_words) × (i < writes_limit) }
+    ensures { result ≡ get_or (records_of (drop 1 words.now)) i no_record }
+{
+    let at = 1 + RECORD_WORDS * i;
+    Record {
+        addr: words[at] as usize,
+        len: words[at + 1] as usize,
     }
 }
 
@@ -43,12 +52,9 @@ pub fn stored(words: &mut [u64], state: State)
     ensures { words.new ≡ words_of state }
 {
     words[0] = state.count as u64;
-    let mut i = 0;
-    while i < WRITES_LIMIT {
+    for (i, r) in state.records.iter().enumerate() {
         let at = 1 + RECORD_WORDS * i;
-        let r = state.records[i];
         words[at] = r.addr as u64;
         words[at + 1] = r.len as u64;
-        i += 1;
     }
 }

@@ -9,30 +9,27 @@ use Rattle.boundary.proofs.state_words.stored.Goals as goal
 
 pub loop-i-init : goal.loop-i-init
 loop-i-init c =
-    let a = c.args in
-    let sized : length a.state.records ≡ writes_limit = search rules in (
-      omega arith,
+    let a = c.args in (
       length-set a.words.now 0 _ ∙ c.requires,
-      sized,
-      front_more a.words.now (words_of a.state) 0 0 (omega (arith, c.requires)) (omega (arith, words_length a.state sized)) refl refl,
+      front_more a.words.now (words_of a.state) 0 0 (omega (arith, c.requires)) (omega arith) refl refl,
     )
 
 pub loop-i-preserved : goal.loop-i-preserved
 loop-i-preserved c =
     let l = c.loop-i in
     let st = c.args.state in
+    let sized : length st.records ≡ writes_limit = search rules in
     let r = get_or st.records l.i no_record in
     let at = 1 + 2 * l.i in (
-      omega arith,
-      length-set (set l.words at r.addr) (at + 1) r.len ∙ length-set l.words at r.addr ∙ l.invariant.1,
-      l.invariant.2,
-      store_more st l.invariant.2 l.words l.i l.invariant.1 (omega arith) l.invariant.3,
+      length-set (set l.words at r.addr) (at + 1) r.len ∙ length-set l.words at r.addr ∙ l.invariant.0,
+      store_more st sized l.words l.i l.invariant.0 (omega (arith, c.loop-i-test.true, sized)) l.invariant.1,
     )
 
 pub returns : goal.returns
 returns c =
     let l = c.loop-i in
     let st = c.args.state in
-    let last : l.i ≡ writes_limit = omega arith in
-    let front : take state_words l.words ≡ take state_words (words_of st) = rw last at l.invariant.3 in
-    front_all l.words (words_of st) state_words l.invariant.1 (words_length st l.invariant.2) front
+    let sized : length st.records ≡ writes_limit = search rules in
+    let last : l.i ≡ writes_limit = omega (arith, l.auto, c.loop-i-test.false, sized) in
+    let front : take state_words l.words ≡ take state_words (words_of st) = rw last at l.invariant.1 in
+    front_all l.words (words_of st) state_words l.invariant.0 (words_length st sized) front
