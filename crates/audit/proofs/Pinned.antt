@@ -40,8 +40,8 @@ pub number_pinned : {n : ℕ} (a b : Answer) → answer_number a ≡ n → answe
 number_pinned a b p q = answers_by_number a b (same p q)
 
 -- so what a sheet says of an image
-pub sheet_pinned : (sheet image : List ℕ) (a b : Answer) → answer_number a ≡ sheet_number sheet image → answer_number b ≡ sheet_number sheet image → a ≡ b
-sheet_pinned sheet image = number_pinned
+pub sheet_pinned : {n : ℕ} (a b : Answer) → answer_number a ≡ n → answer_number b ≡ n → a ≡ b
+sheet_pinned = number_pinned
 
 -- and what a state is checked to be, by its report
 pub check_pinned : {r : Report} (a b : Counted) → counted_report a ≡ r → counted_report b ≡ r → a ≡ b

@@ -8,8 +8,9 @@ use boundary::state_words::{STATE_WORDS, loaded, stored};
 use gate::gate::gate;
 use gate::judge::judge;
 use gate::open::open;
+use pieces::Write;
 use region::Refusal;
-use region::numbers::{answer_number, refusal_number};
+use region::numbers::answer_number;
 
 // Judges the image and starts an empty log. Of the state only its length is looked at.
 pub fn skaldrift_open(state: &mut [u64], image: &[u8], log: &[u8], sheet: &[u8]) -> u64
@@ -19,12 +20,11 @@ pub fn skaldrift_open(state: &mut [u64], image: &[u8], log: &[u8], sheet: &[u8])
         (lent image.now state.new log.now) }
 {
     if state.len() != STATE_WORDS {
-        return refusal_number(Refusal::BadState);
+        return Refusal::BadState.into();
     }
-    let before = loaded(state);
-    let opened = open(before, image, log, sheet);
-    stored(state, opened.state);
-    let answer = opened.answer;
+    let mut opened = loaded(state);
+    let answer = open(&mut opened, image, log, sheet);
+    stored(state, opened);
     answer_number(answer)
 }
 
@@ -45,10 +45,14 @@ pub fn skaldrift_judge(
         work.new report.new }
 {
     if state.len() != STATE_WORDS {
-        return refusal_number(Refusal::BadState);
+        return Refusal::BadState.into();
     }
-    let before = loaded(state);
-    let verdict = judge(before, image, log, sheet, work, addr as usize, data);
+    let asked = loaded(state);
+    let write = Write {
+        addr: addr as usize,
+        bytes: data,
+    };
+    let verdict = judge(&asked, image, log, sheet, work, write);
     verdict_number(verdict, report)
 }
 
@@ -69,11 +73,14 @@ pub fn skaldrift_gate(
         (lent image.now state.new log.new) work.new report.new }
 {
     if state.len() != STATE_WORDS {
-        return refusal_number(Refusal::BadState);
+        return Refusal::BadState.into();
     }
-    let before = loaded(state);
-    let gated = gate(before, image, log, sheet, work, addr as usize, data);
-    stored(state, gated.state);
-    let verdict = gated.verdict;
+    let mut gated = loaded(state);
+    let asked = Write {
+        addr: addr as usize,
+        bytes: data,
+    };
+    let verdict = gate(&mut gated, image, log, sheet, work, asked);
+    stored(state, gated);
     verdict_number(verdict, report)
 }

@@ -7,8 +7,9 @@ ghost use Rattle.boundary.specs.Log.{SkaldriftWrite, SkaldriftRead, SkaldriftFlu
 
 use boundary::reports::cut_number;
 use boundary::state_words::{STATE_WORDS, loaded, state_words, stored};
+use pieces::Write;
 use region::Refusal;
-use region::numbers::{answer_number, refusal_number};
+use region::numbers::answer_number;
 use writelog::cut::cut;
 use writelog::flush::flush;
 use writelog::read::read_fill;
@@ -35,12 +36,15 @@ pub fn skaldrift_write(
         (lent image.now state.new log.new) }
 {
     if state.len() != STATE_WORDS {
-        return refusal_number(Refusal::BadState);
+        return Refusal::BadState.into();
     }
-    let before = loaded(state);
-    let written = write(before, image, log, addr as usize, data);
-    stored(state, written.state);
-    let answer = written.answer;
+    let mut written = loaded(state);
+    let asked = Write {
+        addr: addr as usize,
+        bytes: data,
+    };
+    let answer = write(&mut written, image, log, asked);
+    stored(state, written);
     answer_number(answer)
 }
 
@@ -56,10 +60,10 @@ pub fn skaldrift_read(
     ensures { SkaldriftRead (lent image.now state.now log.now) work.old addr len result work.new }
 {
     if state.len() != STATE_WORDS {
-        return refusal_number(Refusal::BadState);
+        return Refusal::BadState.into();
     }
-    let before = loaded(state);
-    let answer = read_fill(before, image, log, work, addr as usize, len as usize);
+    let asked = loaded(state);
+    let answer = read_fill(&asked, image, log, work, addr as usize, len as usize);
     answer_number(answer)
 }
 
@@ -70,12 +74,11 @@ pub fn skaldrift_flush(state: &mut [u64], image: &mut [u8], log: &[u8]) -> u64
         (lent image.new state.new log.now) }
 {
     if state.len() != STATE_WORDS {
-        return refusal_number(Refusal::BadState);
+        return Refusal::BadState.into();
     }
-    let before = loaded(state);
-    let flushed = flush(before, image, log);
-    stored(state, flushed.state);
-    let answer = flushed.answer;
+    let mut flushed = loaded(state);
+    let answer = flush(&mut flushed, image, log);
+    stored(state, flushed);
     answer_number(answer)
 }
 
@@ -93,11 +96,10 @@ pub fn skaldrift_cut(
         (lent image.new state.new log.now) report.new }
 {
     if state.len() != STATE_WORDS {
-        return refusal_number(Refusal::BadState);
+        return Refusal::BadState.into();
     }
-    let before = loaded(state);
-    let after = cut(before, image, log, rows);
-    stored(state, after.state);
-    let answer = after.answer;
+    let mut after = loaded(state);
+    let answer = cut(&mut after, image, log, rows);
+    stored(state, after);
     cut_number(answer, report)
 }

@@ -5,8 +5,10 @@ ghost use Rattle.boundary.specs.Tape.{SkaldriftTapeWrite, SkaldriftTapeFlush, Sk
 
 use boundary::reports::cut_number;
 use boundary::state_words::{STATE_WORDS, loaded, stored};
+use epochs::epoch::Tape;
+use pieces::Write;
 use region::Refusal;
-use region::numbers::{answer_number, refusal_number};
+use region::numbers::answer_number;
 use tape::tape_cut::tape_cut;
 use tape::tape_flush::tape_flush;
 use tape::tape_write::tape_write;
@@ -28,21 +30,19 @@ pub fn skaldrift_tape_write(
         (lent_by_tape (lent image.now state.new log.new) start predicted.new) }
 {
     if state.len() != STATE_WORDS {
-        return refusal_number(Refusal::BadState);
+        return Refusal::BadState.into();
     }
-    let before = loaded(state);
-    let written = tape_write(
-        before,
-        image,
-        log,
-        tape,
-        start as usize,
-        predicted,
-        addr as usize,
-        data,
-    );
-    stored(state, written.state);
-    let answer = written.answer;
+    let mut written = loaded(state);
+    let epoch = Tape {
+        bytes: tape,
+        start: start as usize,
+    };
+    let asked = Write {
+        addr: addr as usize,
+        bytes: data,
+    };
+    let answer = tape_write(&mut written, image, log, epoch, predicted, asked);
+    stored(state, written);
     answer_number(answer)
 }
 
@@ -61,13 +61,16 @@ pub fn skaldrift_tape_flush(
         (lent_by_tape (lent image.new state.new log.now) start.new predicted.new) }
 {
     if state.len() != STATE_WORDS {
-        return refusal_number(Refusal::BadState);
+        return Refusal::BadState.into();
     }
-    let before = loaded(state);
-    let flushed = tape_flush(before, image, log, tape, *start as usize, predicted);
-    stored(state, flushed.state);
-    *start = flushed.start as u64;
-    let answer = flushed.answer;
+    let mut flushed = loaded(state);
+    let mut epoch = Tape {
+        bytes: tape,
+        start: *start as usize,
+    };
+    let answer = tape_flush(&mut flushed, image, log, &mut epoch, predicted);
+    stored(state, flushed);
+    *start = epoch.start as u64;
     answer_number(answer)
 }
 
@@ -87,12 +90,15 @@ pub fn skaldrift_tape_cut(
         (lent_by_tape (lent image.new state.new log.now) start.new predicted.new) report.new }
 {
     if state.len() != STATE_WORDS {
-        return refusal_number(Refusal::BadState);
+        return Refusal::BadState.into();
     }
-    let before = loaded(state);
-    let after = tape_cut(before, image, log, tape, *start as usize, predicted);
-    stored(state, after.state);
-    *start = after.start as u64;
-    let answer = after.answer;
+    let mut after = loaded(state);
+    let mut next = Tape {
+        bytes: tape,
+        start: *start as usize,
+    };
+    let answer = tape_cut(&mut after, image, log, &mut next, predicted);
+    stored(state, after);
+    *start = next.start as u64;
     cut_number(answer, report)
 }
