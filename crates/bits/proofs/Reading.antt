@@ -1,4 +1,4 @@
--- Laws of the readers: when a field is there and when the bytes are cut short, and what was read before. Assumes nothing.
+-- Laws of the readers: when a field is there and when the bytes are cut short, and what holds of whatever readers one after the other get. Assumes nothing.
 use mathlib.Core.Path.{◌≡◌, refl, sym, ap, ◌∙◌}
 use mathlib.Core.Bool.{Bool, true, false}
 use mathlib.Core.List.{List}

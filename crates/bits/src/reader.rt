@@ -6,7 +6,7 @@ ghost use Rattle.bits.specs.Bits.{max_width, bit_count, read_field, taken};
 use crate::{BYTE_BITS, field_at};
 
 // It stands among the bits of its bytes or at their end, and these can be counted in a usize.
-#[derive(Clone, Copy)]
+#[derive(Drop)]
 pub struct BitReader<'a> {
     pub bytes: &'a [u8],
     pub at: usize,

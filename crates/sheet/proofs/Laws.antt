@@ -12,7 +12,8 @@ use lib.ListN.{length, get_or}
 use borrow.Author.Tests.{le-leb, lt-leb}
 use Rattle.region.specs.Answer.{Answer, answer_number, done, unless}
 use Rattle.region.specs.declared.Refusal.TheVariants.{BadSheet, BrokenImage}
-use Rattle.std.specs.Prelude.{Err}
+use Rattle.region.proofs.AnswerLaws.{refusal_not_done}
+use Rattle.std.specs.Prelude.{Ok, Err, is_ok}
 use Rattle.sheet.specs.Sheet.{Clause, range, same, Rule, clause, group, Rules, nil, cons, Kind, clause_holds, join, holds, members_hold, read_sheet, well_formed, obeys, allows, rule_holds, is_rule, sheet_number}
 
 -- A sheet of edition 1 looks at the image after alone.
@@ -103,3 +104,16 @@ low_above_high a low high before after h = go (ltb a (length after)) (dec_le low
     go false d = refl
     go true (yes above) = rw (le-leb low (get_or after a 0) above) (lt-leb (get_or after a 0) high (omega arith))
     go true (no below) = rw (lt-leb low (get_or after a 0) (omega arith))
+
+-- The answer is Ok exactly if the image obeys the sheet.
+pub told_ok : (s image : List ℕ) (r : Answer) → answer_number r ≡ sheet_number s image → (before : List ℕ) → is_ok r ≡ obeys s before image
+told_ok s image r told before =
+    go r (well_formed s) (obeys s before image) (malformed_is_not_obeyed s before image) (told ∙ unseen s image before)
+  where
+    go : (r : Answer) (formed obeyed : Bool) → (formed ≡ false → obeyed ≡ false) → answer_number r ≡ by_tests formed obeyed → is_ok r ≡ obeyed
+    go (Ok unit) false obeyed unobeyed e = absurd (omega (arith, e))
+    go (Ok unit) true true unobeyed e = refl
+    go (Ok unit) true false unobeyed e = absurd (omega (arith, e))
+    go (Err why) false obeyed unobeyed e = sym (unobeyed refl)
+    go (Err why) true true unobeyed e = absurd (omega (arith, e, refusal_not_done why))
+    go (Err why) true false unobeyed e = refl

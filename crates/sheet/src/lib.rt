@@ -50,7 +50,7 @@ fn rule_holds(sheet: &[u8], image: &[u8]) -> Option<bool>
     filled(&reader).then_some(holds)
 }
 
-// The sheet says no rule, or the image breaks the rule that it says.
+// Refused where the sheet says no rule, or the image breaks the rule that it says.
 pub fn judge(sheet: &[u8], image: &[u8]) -> Result<(), Refusal>
     ensures { answer_number result ≡ sheet_number sheet.now image.now }
 {
