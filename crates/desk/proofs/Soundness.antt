@@ -6,7 +6,8 @@ use mathlib.Core.Bool.{Bool, true, false}
 use mathlib.Core.List.{[], ◌∷◌}
 use lib.ListN.{length, get_or}
 use borrow.Author.Tests.{le-leb, leb-true, eq-eqb, eqb-true}
-use Rattle.std.specs.Prelude.{Ok, Err}
+use Rattle.std.specs.Prelude.{Result, Ok, Err, IsErrAnd}
+use Rattle.std.proofs.lemmas.Result.{err_from_is_err_and}
 use Rattle.region.specs.Limits.{image_limit, writes_limit, log_limit}
 use Rattle.region.specs.Answer.{Report, Counted, counted_report}
 use Rattle.region.specs.declared.Refusal.{Refusal}
@@ -99,3 +100,7 @@ module _ (L : ℕ) (st : State) (log_length : ℕ) where
 
       pub told_bad_state : why ≡ BadState
       told_bad_state = refusals_by_number why BadState (ap (λ (x : Report). x.number) (sym (ap counted_report is) ∙ told ∙ check_unsound told_unsound))
+
+      -- what `?` passes on
+      pub told_stopped : {T : Type 0} {answer : Result T Refusal} → IsErrAnd answer (λ e. e ≡ why) → (answer ≡ Err BadState) × (sound_for L st log_length ≡ false)
+      told_stopped {answer} passed = let p = err_from_is_err_and answer passed in (p.1 ∙ ap Err (p.2 ∙ told_bad_state), told_unsound)

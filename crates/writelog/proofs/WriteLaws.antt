@@ -1,8 +1,8 @@
 -- Which of a write's tests gives its number, and the promise of a done write and of a refused one. Assumes nothing.
-use mathlib.Core.Path.{◌≡◌, sym, ap, ◌∙◌}
+use mathlib.Core.Path.{◌≡◌, sym, ◌∙◌}
 use mathlib.Core.Bool.{true, false}
 use Rattle.std.specs.Prelude.{Err}
-use Rattle.region.specs.Answer.{answer_number, Answer, done}
+use Rattle.region.specs.Answer.{refusal_number, done}
 use Rattle.region.specs.declared.Refusal.{Refusal}
 use Rattle.region.proofs.AnswerLaws.{done_changed, refused_left}
 use Rattle.region.proofs.Booleans.{cond_when, cond_unless}
@@ -19,9 +19,9 @@ module _ (d : Desk) (w : Write) where
   unfolding write_number
   write_sound e = cond_when (sound d) (room_for d w) 1 e
 
-module _ {d : Desk} {w : Write} {answer : Answer} (number : answer_number answer ≡ write_number d w) where
-  pub writes_done : {d' : Desk} → answer ≡ done → d' ≡ with_write d w → Writes d w answer d'
-  writes_done e left = record { answers = number; leaves = left ∙ done_changed d (sym number ∙ ap answer_number e) }
+module _ {d : Desk} {w : Write} where
+  pub writes_done : write_number d w ≡ 0 → {d' : Desk} → d' ≡ with_write d w → Writes d w done d'
+  writes_done none left = record { answers = sym none; leaves = left ∙ done_changed d none }
 
-  pub writes_refused : (why : Refusal) → answer ≡ Err why → Writes d w answer d
-  writes_refused why e = record { answers = number; leaves = refused_left why (with_write d w) (sym number ∙ ap answer_number e) }
+  pub writes_refused : (why : Refusal) → write_number d w ≡ refusal_number why → Writes d w (Err why) d
+  writes_refused why some = record { answers = sym some; leaves = refused_left why (with_write d w) some }

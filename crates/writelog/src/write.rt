@@ -1,41 +1,24 @@
 // The plain write.
-ghost use Rattle.pieces.specs.AsyncSpec.{write_of};
+ghost use Rattle.pieces.specs.Handed.{handed};
 ghost use Rattle.desk.specs.Desk.{desk};
 ghost use Rattle.writelog.specs.Write.{Writes};
 
-use desk::room::{recorded, room};
-use desk::state::{State, checked};
+use desk::state::State;
+use pieces::Write;
 use records::Record;
 use region::Refusal;
 
-#[derive(Clone, Copy)]
-pub struct Written {
-    pub answer: Result<(), Refusal>,
-    pub state: State,
-}
-
-// Records a write of `bytes` at `addr`, judged by nobody.
-pub fn write(state: State, image: &[u8], log: &mut [u8], addr: usize, bytes: &[u8]) -> Written
-    ensures { Writes (desk image.now state log.old)
-        (write_of addr bytes.now) result.answer
-        (desk image.now result.state log.new) }
+// Records a write, judged by nobody.
+pub fn write(state: &mut State, image: &[u8], log: &mut [u8], write: Write) -> Result<(), Refusal>
+    ensures { Writes (desk image.now state.old log.old) (handed write.entry) result
+        (desk image.now state.new log.new) }
 {
-    let Ok(used) = checked(state, image.len(), log.len()) else {
-        return Written {
-            answer: Err(Refusal::BadState),
-            state,
-        };
-    };
+    let used = state.checked(image.len(), log.len())?;
     let r = Record {
-        addr,
-        len: bytes.len(),
+        addr: write.addr,
+        len: write.bytes.len(),
     };
-    let answer = room(image.len(), state, used, r);
-    match answer {
-        Ok(()) => Written {
-            answer,
-            state: recorded(state, log, used, addr, bytes),
-        },
-        Err(_) => Written { answer, state },
-    }
+    state.room(image.len(), used, r)?;
+    state.push(log, used, write);
+    Ok(())
 }

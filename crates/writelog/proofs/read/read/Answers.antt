@@ -6,10 +6,10 @@ use Rattle.writelog.proofs.read.read.Goals as goal
 
 pub overflow_add-end : goal.overflow_add-end
 overflow_add-end c =
-    let asked = asked_done {L = length c.args.image.now} (sym c.read_fill.ensures.answers ∙ ap answer_number c.in-Done.is) in
+    let asked = asked_done {L = length c.args.image.now} (sym c.read_fill.ensures.answers ∙ ap answer_number c.in-Ok.is) in
     omega (arith, asked)
 
 pub slice_bounds-work-end : goal.slice_bounds-work-end
 slice_bounds-work-end c =
-    let asked = asked_done {L = length c.args.image.now} (sym c.read_fill.ensures.answers ∙ ap answer_number c.in-Done.is) in
+    let asked = asked_done {L = length c.args.image.now} (sym c.read_fill.ensures.answers ∙ ap answer_number c.in-Ok.is) in
     omega (arith, asked, c.read_fill.auto.work)
