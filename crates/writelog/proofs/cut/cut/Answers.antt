@@ -1,5 +1,5 @@
 -- A sound log is replayed over the image by the rows of a right table, and its kept pieces are counted. Assumes nothing.
-use Rattle.std.proofs.Common.{◌≡◌, ◌*◌, ℕ, List, true, false, length, sym, ap, ◌∙◌, arith}
+use Rattle.std.proofs.Common.{◌≡◌, ◌*◌, ℕ, List, true, false, length, sym, ◌∙◌, arith}
 use mathlib.Core.Path.{ap₂}
 use borrow.Author.Tests.{eqb-true}
 use Rattle.region.specs.declared.Refusal.TheVariants.{BadState, BadRows}
