@@ -1,13 +1,14 @@
 -- The choice points of a log, one record at a time. Assumes nothing.
-use Prim.Native.Nat.{ℕ, ◌+◌, ◌-◌, ◌≤◌}
-use native.Mathlib.Nat.{add-sub_cancel_left, le_refl}
+use Prim.Native.Nat.{ℕ, ◌+◌, ◌≤◌, ◌<◌}
+use native.Mathlib.Nat.{le_refl}
+use native.Mathlib.Numerals.{add-one}
 use native.Mathlib.Omega.{arith}
 use mathlib.Core.Path.{◌≡◌, refl, ap, ap₂}
 use mathlib.Core.Bool.{true}
 use mathlib.Core.List.{List, [], ◌∷◌}
 use lib.Dec.{leb}
-use lib.ListN.{length, take, drop, length-drop}
-use lib.Seq.{length-take-le}
+use lib.ListN.{length, get_or, take, drop, length-drop}
+use lib.Seq.{drop-cons, length-take-le}
 use borrow.Author.Tests.{le-leb, leb-true}
 use Rattle.region.specs.Limits.{const_persistence_chunk_size}
 use Rattle.region.proofs.Booleans.{both, both_true}
@@ -17,9 +18,8 @@ use Rattle.cuts.specs.Number.{choice_points}
 use Rattle.cuts.proofs.Choices.{points_of_one_more}
 use Rattle.desk.specs.State.{log_records, together, writes_of, records_inside}
 use Rattle.desk.specs.Desk.{Desk, chunk_size, view, sound}
-use Rattle.walks.specs.Log.{records_left}
+use Rattle.records.specs.Record.{no_record}
 use Rattle.records.specs.declared.Record.{Record}
-use Rattle.walks.proofs.Walk.{record_here, Step}
 use Rattle.walks.proofs.KeptLaws.{touched_le}
 use Rattle.desk.proofs.Soundness.{sound_facts}
 use Rattle.engine.specs.Count.{record_points}
@@ -39,15 +39,15 @@ inside_longer L M (r ∷ rs) h e =
     let parts = both (leb (r.addr + r.len) L) (records_inside L rs) e in
     both_true (le-leb (r.addr + r.len) M (omega (arith, leb-true (r.addr + r.len) L parts.0))) (inside_longer L M rs h parts.1)
 
--- a write's bytes in the log buffer are as many as its record says
-pub piece_length : (at n : ℕ) (log : List ℕ) → at + n ≤ length log → length (take (at + n - at) (drop at log)) ≡ n
-piece_length at n log h = rw (add-sub_cancel_left at n) (length-take-le n (drop at log) (omega (arith, length-drop at log)))
-
--- the points of the next write, and of those after it
-pub points_more : (C : ℕ) {L : ℕ} {words : List ℕ} {next left n at : ℕ} → Step L words next left n at → let r = record_here words next in
-    record_points C (records_left words next left) ≡ touched C r.addr r.len + record_points C (records_left words (next + 1) (left - 1))
+-- the points of the first write, and of those after it
+pub points_first : (C : ℕ) {all : List Record} {r : Record} {rs : List Record} → all ≡ r ∷ rs → record_points C all ≡ touched C r.addr r.len + record_points C rs
 unfolding record_points
-points_more C s = ap (record_points C) s.records
+points_first C first = ap (record_points C) first
+
+-- the same of those from i on
+pub points_next : (C : ℕ) (rs : List Record) (i : ℕ) → i < length rs → let r = get_or rs i no_record in
+    record_points C (drop i rs) ≡ touched C r.addr r.len + record_points C (drop (i + 1) rs)
+points_next C rs i h = rw add-one (points_first C (drop-cons rs i no_record h))
 
 -- a log has no more points than bytes
 pub record_points_le : (rs : List Record) → record_points const_persistence_chunk_size rs ≤ together rs

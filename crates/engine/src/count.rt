@@ -6,19 +6,14 @@ ghost use Rattle.engine.specs.Count.{record_points, Countable};
 
 use desk::state::State;
 use pieces::points::touched;
-use records::Record;
 
-pub fn log_points(state: State) -> usize
-    requires { Countable state }
-    ensures { result ≡ record_points const_persistence_chunk_size (log_records state) }
+pub fn log_points(state: &State) -> usize
+    requires { Countable state.now }
+    ensures { result ≡ record_points const_persistence_chunk_size (log_records state.now) }
 {
-    let count = state.count;
     let mut sum = 0;
-    let mut i = 0;
-    while i < count {
-        let r = state.records[i];
+    for r in state.outstanding() {
         sum += touched(r.addr, r.len);
-        i += 1;
     }
     sum
 }

@@ -1,16 +1,28 @@
--- The image, the log by the number's lowest points, and the new write by those above. What was lent comes back. Assumes nothing.
-use Rattle.std.proofs.Common.{ℕ, ◌-◌, ap, ◌∙◌, rules}
-use lib.Dec.{lit<}
-use Rattle.pieces.proofs.Laid.{update_whole}
+-- The image, the log by the number's lowest points, and the new write by those above. Assumes nothing.
+use Rattle.std.proofs.Common.{ℕ, ◌-◌, length, ap, ◌∙◌}
+use Rattle.pieces.specs.Handed.{handed}
+use Rattle.desk.specs.Desk.{desk}
+use Rattle.desk.proofs.Soundness.{sound_facts}
+use Rattle.walks.proofs.Walk.{all_remain}
 use Rattle.engine.proofs.TrialLaws.{trial_leaves}
 use Rattle.engine.proofs.trial.trial.Goals as goal
+
+pub outstanding-requires : goal.outstanding-requires
+outstanding-requires c = (sound_facts _ _ _ c.requires.good).few
+
+pub chosen_from-requires-clause-remaining : goal.chosen_from-requires-clause-remaining
+chosen_from-requires-clause-remaining c = rw (c.copy_from_slice.ensures.after, c.outstanding.ensures.records) (all_remain (sound_facts _ c.args.state.now _ c.requires.good))
+
+pub chosen_from-requires-clause-short : goal.chosen_from-requires-clause-short
+chosen_from-requires-clause-short c = rw c.copy_from_slice.ensures.after (sound_facts _ c.args.state.now _ c.requires.good).short
 
 pub returns : goal.returns
 returns c =
     let a = c.args in
-    trial_leaves (lit< tt) a.image.now a.log.now c.requires a.m
-    (c.lay.ensures ∙ update_whole a.work.now a.image.now c.requires.same)
-    (search rules)
-    (search rules)
+    trial_leaves (desk a.image.now a.state.now a.log.now) (handed a.write) a.m c.requires
+    c.copy_from_slice.ensures.after
+    c.outstanding.ensures.records
+    c.chosen_from.ensures
+    (c.chosen_from.auto.work ∙ ap length c.copy_from_slice.ensures.after)
     (ap (λ (k : ℕ). a.points - k) c.touched.ensures)
     c.lay_chosen.ensures
