@@ -29,9 +29,6 @@ module _ (d : Desk) (tape : List ℕ) (start : ℕ) {s : List ℕ} (same : s ≡
   abbrev copied : Desk
   copied = desk s d.state d.log
 
-  pub whole_replay_is_predicted : flush_foretold tape start ≡ true → readable (view copied) ≡ predicted_now d tape start
-  whole_replay_is_predicted e = ap (λ (s : List ℕ). readable (view (desk s d.state d.log))) same ∙ sym (predicted_flush C tape start (view d) e)
-
   pub selected_replay_is_predicted : d.state.count ≤ length d.state.records → flush_foretold tape start ≡ false
       → flush_selective C (view copied) (epoch_rows (chunks copied) d.state.count tape start) ≡ predicted_now d tape start
   selected_replay_is_predicted few e =

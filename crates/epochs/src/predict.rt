@@ -4,30 +4,22 @@ ghost use Rattle.desk.specs.Desk.{desk};
 ghost use Rattle.epochs.specs.Foretold.{predicted_now};
 ghost use Rattle.epochs.specs.Predictable.{Predictable};
 
-use crate::epoch::flush_foretold;
+use crate::epoch::Tape;
 use desk::state::State;
-use pieces::lay::lay;
 use pieces::rows::row_bytes;
 use region::chunks::size_to_chunks;
 use walks::selected::replay_selected;
 use walks::whole::replay_whole;
 
-pub fn predict(
-    state: State,
-    image: &[u8],
-    log: &[u8],
-    tape: &[u8],
-    start: usize,
-    predicted: &mut [u8],
-)
-    requires { Predictable (desk image.now state log.now) tape.now start (length predicted.old) }
-    ensures { predicted.new ≡ predicted_now (desk image.now state log.now) tape.now start }
+pub fn predict(state: &State, image: &[u8], log: &[u8], tape: Tape, predicted: &mut [u8])
+    requires { Predictable (desk image.now state.now log.now) tape.bytes.now tape.start (length predicted.old) }
+    ensures { predicted.new ≡ predicted_now (desk image.now state.now log.now) tape.entry.bytes.now tape.entry.start }
 {
-    lay(predicted, 0, image);
-    if flush_foretold(tape, start) {
+    predicted.copy_from_slice(image);
+    if tape.flush_foretold() {
         replay_whole(state, log, predicted);
-        return;
+    } else {
+        let width = row_bytes(size_to_chunks(image.len()));
+        replay_selected(state, log, tape.bytes, width, predicted, tape.start + 1);
     }
-    let width = row_bytes(size_to_chunks(image.len()));
-    replay_selected(state, log, tape, width, predicted, start + 1);
 }
