@@ -5,12 +5,11 @@ ghost use Rattle.bits.specs.Bits.{max_width, bit_count, read_field, taken};
 
 use crate::{BYTE_BITS, field_at};
 
-// It stands among the bits of its bytes or at their end, and these can be counted in a usize.
+// It may stand anywhere, past the last bit too. The bits can be counted in a usize.
 #[derive(Drop)]
 pub struct BitReader<'a> {
     pub bytes: &'a [u8],
     pub at: usize,
-    ghost among: { at ≤ bit_count bytes.now },
     ghost counted: { bit_count bytes.now < 2 ^ 64 },
 }
 
@@ -23,12 +22,18 @@ impl<'a> BitReader<'a> {
         BitReader { bytes, at: 0 }
     }
 
+    fn bits(&self) -> usize
+        ensures { result ≡ bit_count self.now.bytes.now }
+    {
+        self.bytes.len() * BYTE_BITS
+    }
+
     // How many bits are left.
     #[inline]
     pub fn left(&self) -> usize
         ensures { result ≡ bit_count self.now.bytes.now - self.now.at }
     {
-        self.bytes.len() * BYTE_BITS - self.at
+        self.bits().saturating_sub(self.at)
     }
 
     // The field where the reader stands, if the bytes have it whole; the reader moves past it, and stays where it is if they haven't.
@@ -39,6 +44,9 @@ impl<'a> BitReader<'a> {
         ensures bytes { self.new.bytes ≡ self.old.bytes }
         ensures stays { IsNone result → self.new.at ≡ self.old.at }
     {
+        if self.bits() < self.at {
+            return None;
+        }
         if self.left() < width {
             return None;
         }
