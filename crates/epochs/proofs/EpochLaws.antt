@@ -2,18 +2,22 @@
 use Prim.Native.Nat.{ℕ, ◌+◌, ◌-◌, ◌≤◌, ◌<◌}
 use native.Mathlib.Decide.{dec_lt}
 use native.Mathlib.Omega.{arith}
-use mathlib.Core.Path.{◌≡◌, sym, ap, ◌∙◌}
+use mathlib.Core.Path.{◌≡◌, refl, sym, ap, ◌∙◌}
 use mathlib.Core.Logic.{by_cases}
-use mathlib.Core.Bool.{Bool, true, false, ◌||◌}
+use mathlib.Core.Bool.{Bool, true, false, ◌||◌, false≢true}
 use mathlib.Core.List.{List}
 use lib.Dec.{leb, ltb, eqb}
 use lib.ListN.{length}
 use borrow.Author.Tests.{le-leb, lt-leb, leb-true, lt-ltb, le-ltb, ltb-true, eq-eqb, ne_eqb}
+use Rattle.std.specs.Prelude.{Result, Ok, Err}
 use Rattle.region.specs.Answer.{unless}
+use Rattle.region.specs.declared.Refusal.{Refusal}
 use Rattle.region.proofs.AnswerLaws.{passed}
 use Rattle.region.proofs.Booleans.{cond_when, cond_unless, and_when, and_unless, both}
 use Rattle.pieces.specs.Rows.{rows_filled}
 use Rattle.epochs.specs.Epoch.{flush_header, cut_header, header, flush_foretold, header_right, row_place, epoch_there, epoch_number}
+use Rattle.epochs.specs.End.{flushing, ForetellsEnd}
+use Rattle.epochs.specs.declared.epoch.End.{End}
 
 -- what it means that the epoch is there, and that it is right
 pub record There (K n : ℕ) (tape : List ℕ) (start : ℕ) : Type 0 where
@@ -42,6 +46,13 @@ module _ (K n : ℕ) (tape : List ℕ) (start : ℕ) where
   pub epoch_good : epoch_there K n tape start ≡ true → rows_filled K n tape (start + 1) ≡ true → epoch_number K n tape start ≡ 0
   unfolding epoch_number
   epoch_good e f = cond_when (epoch_there K n tape start) after_10 10 e ∙ cond_when (rows_filled K n tape (start + 1)) 0 9 f
+
+  -- a right epoch's header foretells an end
+  pub end_foretold : epoch_number K n tape start ≡ 0 → (r : Result End Refusal) → ForetellsEnd tape start r
+      → (end : End) × (r ≡ Ok end) × (flush_foretold tape start ≡ flushing end)
+  unfolding epoch_number
+  end_foretold none (Ok end) told = (end, refl, told.1)
+  end_foretold none (Err why) told = absurd (false≢true (sym told.1 ∙ (both _ _ (passed _ none).0).0))
 
   -- the header, and then the rows
   pub no_header : header_right tape start ≡ false → epoch_there K n tape start ≡ false

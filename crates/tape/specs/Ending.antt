@@ -32,14 +32,6 @@ tape_ending_number flushing t tape =
 abbrev pub epoch_ended : TapeDesk → (image : List ℕ) → TapeDesk
 epoch_ended t image = by_tape (settled_desk t.memory image) (row_place (chunks t.memory) t.start t.memory.state.count) image
 
--- Inner: what both ends promise alike. A done one leaves the predicted image, which under 80 is the read image.
-pub record Ends (flushing : Bool) (t : TapeDesk) (tape : List ℕ) (answer : Answer) (t' : TapeDesk) : Type 0 where
-  pub answers : answer_number answer ≡ tape_ending_number flushing t tape
-  pub leaves : t' ≡ if_done (tape_ending_number flushing t tape) (epoch_ended t (predicted_now t.memory tape t.start)) t
-  pub sized : length t.memory.state.records ≡ writes_limit
-
--- and the step of a done one
-pub record Settles (d : Desk) (tape : List ℕ) (start next : ℕ) (image' predicted' : List ℕ) : Type 0 where
-  pub next_start : next ≡ row_place (chunks d) start d.state.count
-  pub image_after : image' ≡ predicted_now d tape start
-  pub predicted_after : predicted' ≡ predicted_now d tape start
+-- Inner: the step of a done end, by a flush or by a cut. It leaves the predicted image, which under 80 is the read image.
+abbrev pub Settles : (t : TapeDesk) (tape : List ℕ) (t' : TapeDesk) → Type 0
+Settles t tape t' = t' ≡ epoch_ended t (predicted_now t.memory tape t.start)

@@ -3,111 +3,59 @@ ghost use Rattle.std.specs.Prelude.{◌≡◌, length};
 ghost use Rattle.region.specs.Answer.{answer_number};
 ghost use Rattle.region.specs.Limits.{writes_limit, const_persistence_chunk_size};
 ghost use Rattle.desk.specs.Desk.{desk};
+ghost use Rattle.epochs.specs.End.{flushing};
 ghost use Rattle.epochs.specs.Predictable.{Predictable};
 ghost use Rattle.tape.specs.Memory.{by_tape};
-ghost use Rattle.tape.specs.Ending.{ending_number, Settles, Ends};
+ghost use Rattle.tape.specs.Ending.{ending_number, Settles};
 
-use desk::state::{State, checked, emptied};
-use epochs::epoch::{epoch, flush_foretold};
+use desk::state::State;
+use epochs::epoch::{End, Tape};
 use epochs::predict::predict;
-use pieces::lay::lay;
 use pieces::rows::row_bytes;
-use region::chunks::size_to_chunks;
 use region::Refusal;
-
-// Document 01's number, the state, and where the next epoch starts.
-#[derive(Clone, Copy)]
-pub struct Ended {
-    pub answer: Result<(), Refusal>,
-    pub state: State,
-    pub start: usize,
-}
+use region::chunks::size_to_chunks;
 
 // May the epoch end so? Document 01's 1, 10, 9 and 11.
-fn ending(
-    state: State,
+pub(crate) fn ending(
+    state: &State,
     size: usize,
     log: usize,
-    tape: &[u8],
-    start: usize,
+    tape: Tape,
     predicted: usize,
-    flushing: bool,
+    end: End,
 ) -> Result<(), Refusal>
-    ensures { (answer_number result ≡ ending_number flushing const_persistence_chunk_size size state log tape.now start predicted)
-        × (length state.records ≡ writes_limit) }
+    ensures { (answer_number result ≡ ending_number (flushing end) const_persistence_chunk_size size state.now log tape.entry.bytes.now tape.entry.start predicted)
+        × (length state.now.records ≡ writes_limit) }
 {
-    let Ok(_) = checked(state, size, log) else {
-        return Err(Refusal::BadState);
-    };
+    state.checked(size, log)?;
     if predicted != size {
         return Err(Refusal::BadState);
     }
-    let answer = epoch(tape, start, state.count, size);
-    match answer {
-        Ok(()) => {
-            if flush_foretold(tape, start) != flushing {
-                return Err(Refusal::NotPredicted);
-            }
-            Ok(())
-        }
-        Err(_) => answer,
+    tape.epoch(state.count, size)?;
+    if tape.foretold() != Ok(end) {
+        return Err(Refusal::NotPredicted);
     }
+    Ok(())
 }
 
-// The predicted image becomes the image. Answers where the next epoch starts.
-fn settle(
-    state: State,
+// The predicted image becomes the image, the log is emptied, and the next epoch starts behind this
+// one's rows.
+pub(crate) fn settle(
+    state: &mut State,
     image: &mut [u8],
     log: &[u8],
-    tape: &[u8],
-    start: usize,
+    tape: &mut Tape,
     predicted: &mut [u8],
-) -> usize
-    requires { Predictable (desk image.old state log.now) tape.now start (length predicted.old) }
-    ensures { Settles (desk image.old state log.now) tape.now start result image.new predicted.new }
+)
+    requires { Predictable (desk image.old state.old log.now) tape.old.bytes.now tape.old.start (length predicted.old) }
+    ensures settles { Settles
+        (by_tape (desk image.old state.old log.now) tape.old.start predicted.old)
+        tape.old.bytes.now
+        (by_tape (desk image.new state.new log.now) tape.new.start predicted.new) }
+    ensures same_tape { tape.new.bytes ≡ tape.old.bytes }
 {
-    predict(state, image, log, tape, start, predicted);
-    lay(image, 0, predicted);
-    start + 1 + state.count * row_bytes(size_to_chunks(image.len()))
-}
-
-// Ends the epoch where the tape foretells this end, and empties the log.
-pub(crate) fn end_epoch(
-    state: State,
-    image: &mut [u8],
-    log: &[u8],
-    tape: &[u8],
-    start: usize,
-    predicted: &mut [u8],
-    flushing: bool,
-) -> Ended
-    ensures { Ends flushing
-        (by_tape (desk image.old state log.now) start predicted.old)
-        tape.now result.answer
-        (by_tape (desk image.new result.state log.now) result.start predicted.new) }
-{
-    let answer = ending(
-        state,
-        image.len(),
-        log.len(),
-        tape,
-        start,
-        predicted.len(),
-        flushing,
-    );
-    match answer {
-        Ok(()) => {
-            let next = settle(state, image, log, tape, start, predicted);
-            Ended {
-                answer,
-                state: emptied(state),
-                start: next,
-            }
-        }
-        Err(_) => Ended {
-            answer,
-            state,
-            start,
-        },
-    }
+    predict(state, image, log, *tape, predicted);
+    image.copy_from_slice(predicted);
+    tape.start += 1 + state.count * row_bytes(size_to_chunks(image.len()));
+    state.clear();
 }

@@ -1,50 +1,33 @@
 // The cut by tape.
+ghost use Rattle.std.specs.Prelude.{◌≡◌};
 ghost use Rattle.desk.specs.Desk.{desk};
 ghost use Rattle.tape.specs.Memory.{by_tape};
 ghost use Rattle.tape.specs.Cut.{TapeCuts};
 
-use crate::ending::end_epoch;
+use crate::ending::{ending, settle};
 use desk::state::State;
+use epochs::epoch::{End, Tape};
+use region::Refusal;
 use walks::kept_count::kept;
 
-#[derive(Clone, Copy)]
-pub struct AfterTapeCut {
-    pub answer: Result<usize, Refusal>,
-    pub state: State,
-    pub start: usize,
-}
-
-// Makes the predicted image the image, where the tape foretells a cut, and empties the log.
+// Makes the predicted image the image, where the tape foretells a cut, and empties the log. Answers
+// how many pieces it kept.
 pub fn tape_cut(
-    state: State,
+    state: &mut State,
     image: &mut [u8],
     log: &[u8],
-    tape: &[u8],
-    start: usize,
+    tape: &mut Tape,
     predicted: &mut [u8],
-) -> AfterTapeCut
-    ensures { TapeCuts
-        (by_tape (desk image.old state log.now) start predicted.old)
-        tape.now result.answer
-        (by_tape (desk image.new result.state log.now) result.start predicted.new) }
+) -> Result<usize, Refusal>
+    ensures cuts { TapeCuts
+        (by_tape (desk image.old state.old log.now) tape.old.start predicted.old)
+        tape.old.bytes.now result
+        (by_tape (desk image.new state.new log.now) tape.new.start predicted.new) }
+    ensures same_tape { tape.new.bytes ≡ tape.old.bytes }
 {
-    let ended = end_epoch(state, image, log, tape, start, predicted, false);
-    let answer = ended.answer;
-    let next = ended.state;
-    match answer {
-        Ok(()) => {
-            let rows = start + 1;
-            let pieces = kept(state, image.len(), tape, rows);
-            AfterTapeCut {
-                answer: Ok(pieces),
-                state: next,
-                start: ended.start,
-            }
-        }
-        Err(why) => AfterTapeCut {
-            answer: Err(why),
-            state: next,
-            start: ended.start,
-        },
-    }
+    ending(state, image.len(), log.len(), *tape, predicted.len(), End::Cut)?;
+    let rows = tape.start + 1;
+    let pieces = kept(state, image.len(), tape.bytes, rows);
+    settle(state, image, log, tape, predicted);
+    Ok(pieces)
 }

@@ -1,6 +1,12 @@
 -- An epoch that ends by a flush leaves the read image. Assumes nothing.
-use Rattle.tape.proofs.PromiseLaws.{ends_flushing}
+use Rattle.std.proofs.Common.{sym, ap, ◌∙◌}
+use Rattle.region.specs.Answer.{answer_number}
+use Rattle.tape.proofs.NumberLaws.{ending_done, predictable_now}
+use Rattle.tape.proofs.PromiseLaws.{tape_flushes_done}
 use Rattle.tape.proofs.tape_flush.tape_flush.Goals as goal
 
-pub returns : goal.returns
-returns c = ends_flushing c.end_epoch.ensures
+pub settle-requires : goal.settle-requires
+settle-requires c = predictable_now c.ending.ensures.1 (ending_done _ _ _ (sym c.ending.ensures.0 ∙ ap answer_number c.in_ok-ending.was))
+
+pub returns-clause-flushes : goal.returns-clause-flushes
+returns-clause-flushes c = tape_flushes_done c.settle.ensures.settles (sym c.ending.ensures.0 ∙ ap answer_number c.in_ok-ending.was)
