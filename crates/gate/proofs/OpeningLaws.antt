@@ -11,10 +11,10 @@ use Rattle.std.specs.Prelude.{Err}
 use Rattle.region.specs.Limits.{image_limit, log_limit}
 use Rattle.region.specs.Answer.{unless, refusal_number, done}
 use Rattle.region.specs.declared.Refusal.{Refusal}
-use Rattle.region.specs.declared.Refusal.TheVariants.{BadState, BadSheet, BrokenImage}
+use Rattle.region.specs.declared.Refusal.TheVariants.{BadState}
 use Rattle.region.proofs.AnswerLaws.{done_changed, refused_left, passed}
 use Rattle.region.proofs.Booleans.{cond_when, cond_unless, and_unless, both, both_true}
-use Rattle.sheet.specs.Sheet.{well_formed, allows}
+use Rattle.sheet.specs.Sheet.{well_formed, allows, sheet_number}
 use Rattle.sheet.proofs.Laws.{obeyed_is_formed}
 use Rattle.desk.specs.State.{fresh}
 use Rattle.desk.specs.Desk.{Desk, desk, opened_desk}
@@ -31,7 +31,7 @@ module _ (d : Desk) (sheet : List ℕ) where
   last = unless (allows sheet d.image) 6 0
 
   module _ (short : length d.image ≤ image_limit) (buffer : length d.log ≡ log_limit) where
-    first_passed : open_number d sheet ≡ unless (well_formed sheet) 5 last
+    first_passed : open_number d sheet ≡ sheet_number sheet d.image
     unfolding open_number
     first_passed = cond_when (first d) _ 1 (both_true (le-leb (length d.image) image_limit short) (eq-eqb (length d.log) log_limit buffer))
 
@@ -71,14 +71,11 @@ module _ {d : Desk} {sheet : List ℕ} where
   opens_other_log n = opens_refused BadState (cond_unless (first d) _ 1 (rw (ne_eqb (length d.log) log_limit n, and-false)))
 
   module _ (short : length d.image ≤ image_limit) (buffer : length d.log ≡ log_limit) where
-    pub opens_malformed : well_formed sheet ≡ false → Opens d sheet (Err BadSheet) d
-    opens_malformed e = opens_refused BadSheet (first_passed d sheet short buffer ∙ cond_unless (well_formed sheet) _ 5 e)
+    -- what the sheet says of the image
+    pub opens_stopped : (why : Refusal) → refusal_number why ≡ sheet_number sheet d.image → Opens d sheet (Err why) d
+    opens_stopped why e = opens_refused why (first_passed d sheet short buffer ∙ sym e)
 
-    pub opens_broken : (well_formed sheet ≡ true) × (allows sheet d.image ≡ false) → Opens d sheet (Err BrokenImage) d
-    opens_broken e = opens_refused BrokenImage (open_broken d sheet short buffer e.0 e.1)
-
-    pub opens_good : (well_formed sheet ≡ true) × (allows sheet d.image ≡ true) → {st : State} → st ≡ fresh
-        → Opens d sheet done (desk d.image st d.log)
+    pub opens_good : 0 ≡ sheet_number sheet d.image → {st : State} → st ≡ fresh → Opens d sheet done (desk d.image st d.log)
     opens_good e s =
-        let none = open_good d sheet short buffer e.1 in
+        let none = first_passed d sheet short buffer ∙ sym e in
         record { answers = sym none; leaves = ap (λ (st : State). desk d.image st d.log) s ∙ done_changed d none }

@@ -1,47 +1,31 @@
 // The gate.
-ghost use Rattle.pieces.specs.AsyncSpec.{write_of};
+ghost use Rattle.pieces.specs.Handed.{handed};
 ghost use Rattle.desk.specs.Desk.{desk};
 ghost use Rattle.gate.specs.Judgement.{Gates};
 
 use crate::Verdict;
 use crate::judge::decide;
-use desk::room::recorded;
-use desk::state::{State, checked};
+use desk::state::State;
+use pieces::Write;
 use region::Refusal;
 
-#[derive(Clone, Copy)]
-pub struct Gated {
-    pub verdict: Result<Verdict, Refusal>,
-    pub state: State,
-}
-
-// Judges a write of `bytes` at `addr`, and records it if it is admitted.
+// Judges a write, and records it if it is admitted.
 pub fn gate(
-    state: State,
+    state: &mut State,
     image: &[u8],
     log: &mut [u8],
     sheet: &[u8],
     work: &mut [u8],
-    addr: usize,
-    bytes: &[u8],
-) -> Gated
-    ensures { Gates (desk image.now state log.old) sheet.now
-        work.old (write_of addr bytes.now) result.verdict
-        (desk image.now result.state log.new) work.new }
+    write: Write,
+) -> Result<Verdict, Refusal>
+    ensures { Gates (desk image.now state.old log.old) sheet.now
+        work.old (handed write.entry) result
+        (desk image.now state.new log.new) work.new }
 {
-    let Ok(used) = checked(state, image.len(), log.len()) else {
-        return Gated {
-            verdict: Err(Refusal::BadState),
-            state,
-        };
-    };
-    let verdict = decide(state, used, image, log, sheet, work, addr, bytes);
-    match verdict {
-        Ok(Verdict::Admitted(_)) => Gated {
-            verdict,
-            state: recorded(state, log, used, addr, bytes),
-        },
-        Ok(Verdict::Denied(_)) => Gated { verdict, state },
-        Err(_) => Gated { verdict, state },
+    let used = state.checked(image.len(), log.len())?;
+    let verdict = decide(state, used, image, log, sheet, work, write)?;
+    if let Verdict::Admitted(_) = verdict {
+        state.push(log, used, write);
     }
+    Ok(verdict)
 }

@@ -2,7 +2,7 @@
 use Rattle.std.proofs.Common.{◌+◌, ◌≡◌, length, sym, ◌∙◌, arith}
 use mathlib.Core.Path.{ap₂}
 use Rattle.region.specs.Limits.{image_limit}
-use Rattle.pieces.specs.AsyncSpec.{write_of}
+use Rattle.pieces.specs.Handed.{handed}
 use Rattle.desk.specs.State.{log_records}
 use Rattle.desk.specs.Desk.{desk}
 use Rattle.desk.proofs.Soundness.{sound_facts}
@@ -14,7 +14,7 @@ use Rattle.gate.proofs.judge.weigh.Goals as goal
 
 pub log_points-requires : goal.log_points-requires
 log_points-requires c =
-    let st = c.args.state in
+    let st = c.args.state.now in
     let facts = sound_facts _ st _ c.requires.good in
     record {
       sized = c.requires.sized;
@@ -26,42 +26,42 @@ log_points-requires c =
 pub returns-then-n-gt-POINTS_LIMIT : goal.returns-then-n-gt-POINTS_LIMIT
 returns-then-n-gt-POINTS_LIMIT c =
     let a = c.args in
-    let d = desk a.image.now a.state a.log.now in
-    let w = write_of a.addr a.bytes.now in
+    let d = desk a.image.now a.state.now a.log.now in
+    let w = handed a.write in
     let points : c.log_points.result + c.touched.result ≡ gate_points d w =
     ap₂ (◌+◌) c.log_points.ensures c.touched.ensures ∙ sym (points_with_a_write d w c.requires.good) in
     weighs_many c.requires (omega (arith, points))
 
-pub returns-in-AllGood : goal.returns-in-AllGood
-returns-in-AllGood c =
+pub returns-in-None : goal.returns-in-None
+returns-in-None c =
     let a = c.args in
-    let d = desk a.image.now a.state a.log.now in
-    let w = write_of a.addr a.bytes.now in
+    let d = desk a.image.now a.state.now a.log.now in
+    let w = handed a.write in
     let points : c.log_points.result + c.touched.result ≡ gate_points d w =
     ap₂ (◌+◌) c.log_points.ensures c.touched.ensures ∙ sym (points_with_a_write d w c.requires.good) in
-    weighs_admitted c.requires (omega (arith, points, c.if-n-gt-POINTS_LIMIT.false)) c.search.ensures c.in-AllGood.is points
+    weighs_admitted c.requires (omega (arith, points, c.if-n-gt-POINTS_LIMIT.false)) c.search.ensures c.in-None.is points
 
-pub returns-in-FirstBad : goal.returns-in-FirstBad
-returns-in-FirstBad c =
+pub returns-in-Some : goal.returns-in-Some
+returns-in-Some c =
     let a = c.args in
-    let d = desk a.image.now a.state a.log.now in
-    let w = write_of a.addr a.bytes.now in
+    let d = desk a.image.now a.state.now a.log.now in
+    let w = handed a.write in
     let points : c.log_points.result + c.touched.result ≡ gate_points d w =
     ap₂ (◌+◌) c.log_points.ensures c.touched.ensures ∙ sym (points_with_a_write d w c.requires.good) in
-    weighs_denied c.requires (omega (arith, points, c.if-n-gt-POINTS_LIMIT.false)) c.search.ensures c.in-FirstBad.is
+    weighs_denied c.requires (omega (arith, points, c.if-n-gt-POINTS_LIMIT.false)) c.search.ensures c.in-Some.is
 
 -- no sum wraps: a log has no more points than bytes, and a write no more than the image
 pub overflow_add-n : goal.overflow_add-n
 overflow_add-n c =
     let a = c.args in
-    let facts = sound_facts _ a.state _ c.requires.good in
+    let facts = sound_facts _ a.state.now _ c.requires.good in
     omega (
       arith,
       c.touched.ensures,
       c.log_points.ensures,
-      record_points_le (log_records a.state),
+      record_points_le (log_records a.state.now),
       facts.room,
       facts.short,
-      touched_le a.addr (length a.bytes.now),
+      touched_le a.write.addr (length a.write.bytes.now),
       c.requires.lies,
     )

@@ -1,21 +1,23 @@
 -- An opening, test by test. Assumes nothing.
-use Rattle.sheet.proofs.Laws.{told_malformed, told_obeys, told_breaks}
-use Rattle.gate.proofs.OpeningLaws.{opens_long, opens_other_log, opens_malformed, opens_broken, opens_good}
+use Rattle.std.proofs.lemmas.Result.{err_from_is_err_and}
+use Rattle.gate.proofs.OpeningLaws.{opens_long, opens_other_log, opens_stopped, opens_good}
 use Rattle.gate.proofs.open.open.Goals as goal
+use Rattle.gate.proofs.open.open.Goals.{
+  then-image-gt-IMAGE_LIMIT-via-then-image-gt-IMAGE_LIMIT,
+  then-image-gt-IMAGE_LIMIT-via-else-image-gt-IMAGE_LIMIT+then-log-ne-LOG_LIMIT,
+}
 
 pub returns-then-image-gt-IMAGE_LIMIT : goal.returns-then-image-gt-IMAGE_LIMIT
-returns-then-image-gt-IMAGE_LIMIT c = opens_long c.if-image-gt-IMAGE_LIMIT.true
+returns-then-image-gt-IMAGE_LIMIT c =
+    elim c.then-image-gt-IMAGE_LIMIT.branch [
+      | then-image-gt-IMAGE_LIMIT-via-then-image-gt-IMAGE_LIMIT w ↦ opens_long w.if-image-gt-IMAGE_LIMIT.true
+      | then-image-gt-IMAGE_LIMIT-via-else-image-gt-IMAGE_LIMIT+then-log-ne-LOG_LIMIT w ↦ opens_other_log w.if-log-ne-LOG_LIMIT.true
+    ]
 
-pub returns-then-log-ne-LOG_LIMIT : goal.returns-then-log-ne-LOG_LIMIT
-returns-then-log-ne-LOG_LIMIT c = opens_other_log c.if-log-ne-LOG_LIMIT.true
+pub returns-in_err-judge : goal.returns-in_err-judge
+returns-in_err-judge c =
+    let passed = err_from_is_err_and c.from_residual.result c.from_residual.ensures.1 in
+    rw (passed.1, passed.2) (opens_stopped c.if-image-gt-IMAGE_LIMIT.false c.if-log-ne-LOG_LIMIT.false c.in_err-judge.field-0.0 c.in_err-judge.ensures)
 
-pub returns-in-Malformed : goal.returns-in-Malformed
-returns-in-Malformed c =
-    opens_malformed c.if-image-gt-IMAGE_LIMIT.false c.if-log-ne-LOG_LIMIT.false (told_malformed _ _ c.judge.ensures c.in-Malformed.is)
-
-pub returns-in-Breaks : goal.returns-in-Breaks
-returns-in-Breaks c = opens_broken c.if-image-gt-IMAGE_LIMIT.false c.if-log-ne-LOG_LIMIT.false (told_breaks _ _ c.judge.ensures c.in-Breaks.is _)
-
-pub returns-in-Obeys : goal.returns-in-Obeys
-returns-in-Obeys c =
-    opens_good c.if-image-gt-IMAGE_LIMIT.false c.if-log-ne-LOG_LIMIT.false (told_obeys _ _ c.judge.ensures c.in-Obeys.is _) c.fresh.ensures
+pub returns : goal.returns
+returns c = opens_good c.if-image-gt-IMAGE_LIMIT.false c.if-log-ne-LOG_LIMIT.false c.in_ok-judge.ensures c.fresh.ensures
