@@ -25,12 +25,6 @@ module _ (rs : List Record) (i : ℕ) (h : i < length rs) where
   unfolding records_inside
   inside_next L = ap (records_inside L) first_and_rest
 
-records_more : (st : State) (i : ℕ) → i < st.count → st.count ≤ length st.records
-    → drop i (log_records st) ≡ get_or st.records i no_record ∷ drop (suc i) (log_records st)
-records_more st i h l =
-    drop-cons (log_records st) i no_record (subst⁻¹ (λ (n : ℕ). i < n) (length-take-le st.count st.records l) h)
-    ∙ ap (λ (r : Record). r ∷ drop (suc i) (log_records st)) (get_or-take st.count st.records i no_record h)
-
 pub records_none : (st : State) (i : ℕ) → st.count ≤ i → drop i (log_records st) ≡ []
 records_none st i h =
     drop_of_length-le (log_records st) (le_trans (subst⁻¹ (λ (n : ℕ). n ≤ st.count) (length-take st.count st.records) (min-le_left st.count (length st.records))) h)
@@ -42,15 +36,19 @@ next st i = get_or st.records i no_record
 abbrev pub rest : State → ℕ → List Record
 rest st i = drop (i + 1) (log_records st)
 
--- what each definition over the records takes from the next one
+-- the same of the next record of a state's log
 module _ (st : State) (i : ℕ) (h : i < st.count) (l : st.count ≤ length st.records) where
+  more : i < length (log_records st)
+  more = subst⁻¹ (λ (n : ℕ). i < n) (length-take-le st.count st.records l) h
+
+  pub here : get_or (log_records st) i no_record ≡ next st i
+  here = get_or-take st.count st.records i no_record h
+
   pub next_and_rest : drop i (log_records st) ≡ next st i ∷ rest st i
-  next_and_rest = rw add-one (records_more st i h l)
+  next_and_rest = first_and_rest (log_records st) i more ∙ ap (λ (r : Record). r ∷ rest st i) here
 
   pub together_more : together (drop i (log_records st)) ≡ (next st i).len + together (rest st i)
-  unfolding together
-  together_more = ap together next_and_rest
+  together_more = together_next (log_records st) i more ∙ ap (λ (r : Record). r.len + together (rest st i)) here
 
   pub inside_more : (L : ℕ) → records_inside L (drop i (log_records st)) ≡ (leb ((next st i).addr + (next st i).len) L && records_inside L (rest st i))
-  unfolding records_inside
-  inside_more L = ap (records_inside L) next_and_rest
+  inside_more L = inside_next (log_records st) i more L ∙ ap (λ (r : Record). leb (r.addr + r.len) L && records_inside L (rest st i)) here

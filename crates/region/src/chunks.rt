@@ -14,12 +14,9 @@ pub fn persistence_chunk_size() -> usize
     CHUNK_SIZE
 }
 
-// Document 01's K. The sum sz + 7 would wrap for the last seven sizes, so the whole chunks and the
-// one begun chunk are counted apart.
+// Document 01's K. The sum sz + 7 would wrap for the last seven sizes; the rounded quotient makes none.
 pub fn size_to_chunks(sz: usize) -> usize
     ensures { result ≡ size_to_chunks const_persistence_chunk_size sz }
 {
-    let whole_chunks = sz / CHUNK_SIZE;
-    let begun_chunk = (sz % CHUNK_SIZE + CHUNK_SIZE - 1) / CHUNK_SIZE;
-    whole_chunks + begun_chunk
+    sz.div_ceil(CHUNK_SIZE)
 }

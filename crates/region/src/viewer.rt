@@ -30,10 +30,7 @@ fn view_answer(l: usize, addr: usize, len: usize) -> Result<(), Refusal>
     if IMAGE_LIMIT < l {
         return Err(Refusal::BadState);
     }
-    if l < addr {
-        return Err(Refusal::OutOfRange);
-    }
-    if l - addr < len {
+    if l < addr || l - addr < len {
         return Err(Refusal::OutOfRange);
     }
     Ok(())
