@@ -26,7 +26,7 @@ use Rattle.rounds.specs.Steps.{Under, Goes}
 use Rattle.example.specs.Run.{Repeats}
 use Rattle.example.proofs.NumberLaws.{Fit, run_0_fits, opening_decides}
 use Rattle.rounds.proofs.SheetLaws.{app_sheet_formed, sheet_says_valid}
-use Rattle.rounds.proofs.StepLaws.{once_admissible, once, twice_admissible, twice, both_written, logged_both, pair_goes, first_value, second_value}
+use Rattle.rounds.proofs.StepLaws.{once_admissible, once, twice_admissible, twice, logged_both, pair_goes, first_value, second_value}
 use Rattle.rounds.proofs.StepLaws.{under_after, under_turned, goes_on}
 use Rattle.example.proofs.RepeatLaws.{repeats_none, repeats_more}
 use Rattle.boundary.specs.Lent.{Lent, desk_of, lent_of}
@@ -68,8 +68,7 @@ module _ (sheet opened_image : List ℕ) where
         let fits₂ = twice_admissible u there₁ in
         let g₂ = admitting fits₂.0 fits₂.1 in
         let f = flushes_done (facts_sound _ _ _ (logged_both u).facts) refl in
-        let both = both_written u (twice u there₁ g₂) {told = done} refl in
-        record { now = _; work_now = _; goes = pair_goes u both (record { answers = f.answers; leaves = f.leaves }); run = r and gate g₁ and gate g₂ and flush f }
+        record { now = _; work_now = _; goes = pair_goes u (twice u there₁ g₂) f; run = r and gate g₁ and gate g₂ and flush f }
 
   round_goes_on : {d : Desk} {work : List ℕ} {addr a b : ℕ} → Under d sheet work addr a b → {h : History} → Run sheet opened_image h d
       → Went (round_of addr a b h) d addr b a

@@ -9,12 +9,13 @@ use lib.ListN.{length, get_or, take, set, length-set, length-append}
 use lib.Seq.{set-set}
 use borrow.Author.Tests.{ltb-true, eq-eqb}
 use lib.Dec.{ltb, eqb}
-use Rattle.std.specs.Prelude.{Ok}
+use Rattle.std.specs.Prelude.{Ok, Err}
 use Rattle.region.specs.Limits.{writes_limit, points_limit}
 use Rattle.region.specs.Pmemspec.{update_bytes}
+use Rattle.region.specs.declared.Refusal.{Refusal}
 use Rattle.region.proofs.Booleans.{both, both_true}
-use Rattle.region.proofs.AnswerLaws.{changed}
-use Rattle.region.specs.Answer.{done}
+use Rattle.region.proofs.AnswerLaws.{answers_by_number, changed}
+use Rattle.region.specs.Answer.{Answer, done}
 use Rattle.pieces.specs.AsyncSpec.{AsyncView, Write, write, readable}
 use Rattle.pieces.specs.Choice.{points}
 use Rattle.sheet.specs.Sheet.{obeys, allows}
@@ -23,17 +24,18 @@ use Rattle.desk.specs.State.{log_records, together, writes_of, record_of}
 use Rattle.desk.specs.Desk.{Desk, chunk_size, view, with_write, settled_desk}
 use Rattle.records.specs.declared.Record.{Record}
 use Rattle.desk.proofs.Soundness.{Sound, facts_sound, Room}
+use Rattle.writelog.specs.Flush.{flush_number, Flushes}
 use Rattle.writelog.proofs.FlushLaws.{flush_sound}
 use Rattle.desk.proofs.Views.{together_last, records_of_appended, sized_of_appended, view_of_recorded, sound_after_recorded, sound_after_settled}
-use Rattle.gate.specs.Judgement.{gate_points, verdict_report, Gates, Judged}
+use Rattle.gate.specs.Judgement.{gate_points, Gates, Judged}
 use Rattle.gate.specs.Meaning.{Fits, CouldLeave}
+use Rattle.gate.specs.declared.Verdict.{Verdict}
 use Rattle.gate.specs.declared.Verdict.TheVariants.{Admitted}
 use Rattle.gate.proofs.JudgementLaws.{admitted_number}
 use Rattle.gate.proofs.Meaning.{gate_means}
 use Rattle.rounds.specs.Valid.{one_of, app_valid}
-use Rattle.rounds.specs.Steps.{Under, WritesBoth, EndsPair, Goes}
-use Rattle.rounds.specs.Answer.{run_answer_number, RunAnswer}
-use Rattle.rounds.proofs.AnswerNumbers.{run_answers_by_number}
+use Rattle.rounds.specs.Steps.{Under, Goes}
+use Rattle.rounds.specs.Answer.{RunAnswer}
 use Rattle.rounds.proofs.ByteLog.{byte_write, byte_laid, byte_writes, byte_log, byte_writes_last, byte_points, last_read}
 use Rattle.rounds.proofs.ByteLog.{all_of, left_valid, cut_leaves_a_value}
 
@@ -73,6 +75,14 @@ pub record Gated (d : Desk) (addr v : ℕ) (answer : Judged) (d' : Desk) (work' 
   pub admitted : answer ≡ Ok (Admitted points)
   pub leaves : d' ≡ with_write d (byte_write addr v)
   pub work_after : work' ≡ set d.image addr v
+
+-- so it is neither refused nor denied
+module _ {d : Desk} {addr v : ℕ} {answer : Judged} {d' : Desk} {work' : List ℕ} (g : Gated d addr v answer d' work') where
+  pub not_refused : {why : Refusal} → answer ≡ Err why → ⊥
+  not_refused is = let e = sym g.admitted ∙ is in cc
+
+  pub not_denied : {verdict : Verdict} → answer ≡ Ok verdict → verdict ≡ Admitted g.points
+  not_denied is = let e = sym g.admitted ∙ is in cc
 
 -- one value more
 module _ {d : Desk} {addr : ℕ} {us : List ℕ} (l : Logged d addr us) (lies : addr < length d.image) (few : length us < points_limit) (v : ℕ) where
@@ -191,29 +201,28 @@ module _ {d : Desk} {sheet work : List ℕ} {addr a b : ℕ} (u : Under d sheet 
         → Gated with_one addr b answer d' work'
     twice g = gate_goes logged_one here (omega arith) b a b long u.good u.says both_of_two (rw g₁.leaves at g)
 
-  pub both_written : {second : Judged} {d₂ : Desk} {work₂ : List ℕ} → Gated with_one addr b second d₂ work₂
-      → {told : RunAnswer} → run_answer_number told ≡ (verdict_report second).number → WritesBoth d addr a b told d₂ work₂
-  both_written g₂ {told} e =
-      record {
-        answers = run_answers_by_number told done (e ∙ ap (λ v. (verdict_report v).number) g₂.admitted);
-        leaves = g₂.leaves;
-        work_after = g₂.work_after;
-      }
+  -- the flush over both
+  module _ {second : Judged} {d₂ : Desk} {work₂ : List ℕ} (g₂ : Gated with_one addr b second d₂ work₂) {flushed : Answer} {d' : Desk} (f : Flushes d₂ flushed d') where
+    ends : Flushes with_both flushed d'
+    ends = rw g₂.leaves at f
 
-  pub pair_goes : {first : RunAnswer} {d₂ : Desk} {work₂ : List ℕ} → WritesBoth d addr a b first d₂ work₂
-      → {told : RunAnswer} {d' : Desk} → EndsPair d₂ told d' → Goes d addr a b told d' work₂
-  pair_goes g₂ {told} {d'} f =
-      let ends : EndsPair with_both told d' = rw g₂.leaves at f in
-      let none = flush_sound with_both (facts_sound _ _ _ logged_both.facts) in
-      let left = changed with_both ends.leaves none in
-      record {
-        answers = run_answers_by_number told done (ends.answers ∙ none);
-        idle = rw left (record { sized = logged_both.sized; empty = refl });
-        image_after = ap (λ (x : Desk). x.image) left ∙ ap readable logged_both.seen ∙ last_read addr b (a ∷ []) d.image here;
-        log_after = ap (λ (x : Desk). x.log) left
-            ∙ log_next logged_one here (omega arith) b ∙ ap (λ (l : List ℕ). set l 1 b) (log_next logged_none here (omega arith) a);
-        work_after = g₂.work_after;
-      }
+    none : flush_number with_both ≡ 0
+    none = flush_sound with_both (facts_sound _ _ _ logged_both.facts)
+
+    pub flush_not_refused : {why : Refusal} → flushed ≡ Err why → ⊥
+    flush_not_refused is = let e = sym (answers_by_number flushed done (ends.answers ∙ none)) ∙ is in cc
+
+    pub pair_goes : Goes d addr a b done d' work₂
+    pair_goes =
+        let left = changed with_both ends.leaves none in
+        record {
+          answers = refl;
+          idle = rw left (record { sized = logged_both.sized; empty = refl });
+          image_after = ap (λ (x : Desk). x.image) left ∙ ap readable logged_both.seen ∙ last_read addr b (a ∷ []) d.image here;
+          log_after = ap (λ (x : Desk). x.log) left
+              ∙ log_next logged_one here (omega arith) b ∙ ap (λ (l : List ℕ). set l 1 b) (log_next logged_none here (omega arith) a);
+          work_after = g₂.work_after;
+        }
 
   -- what goes on under the sheet is under the sheet again
   pub under_after : {x y : ℕ} {answer : RunAnswer} {d₁ : Desk} {work₁ : List ℕ} → Goes d addr x y answer d₁ work₁ → one_of a b y ≡ true

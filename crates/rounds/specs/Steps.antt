@@ -1,12 +1,10 @@
 -- Inner: what the steps of a run ask and promise. A round begins and ends on an empty log.
-use Rattle.std.specs.Prelude.{ℕ, ◌≤◌, ◌≡◌, true, List, [], ◌∷◌, length, set}
-use Rattle.region.specs.Answer.{if_done, done}
+use Rattle.std.specs.Prelude.{ℕ, ◌≤◌, ◌≡◌, true, List, length, set}
+use Rattle.region.specs.Answer.{done}
 use Rattle.region.specs.Limits.{image_limit, writes_limit, log_limit}
-use Rattle.pieces.specs.AsyncSpec.{write_of, readable}
 use Rattle.sheet.specs.Sheet.{obeys}
-use Rattle.desk.specs.Desk.{Desk, view, with_write, settled_desk}
-use Rattle.writelog.specs.Flush.{flush_number}
-use Rattle.rounds.specs.Answer.{run_answer_number, RunAnswer}
+use Rattle.desk.specs.Desk.{Desk}
+use Rattle.rounds.specs.Answer.{RunAnswer}
 use Rattle.rounds.specs.Valid.{app_valid}
 
 -- an empty log
@@ -22,17 +20,6 @@ pub record Under (d : Desk) (sheet work : List ℕ) (addr a b : ℕ) : Type 0 wh
   pub same : length work ≡ length d.image
   pub good : app_valid addr a b d.image ≡ true
   pub says : (before after : List ℕ) → obeys sheet before after ≡ app_valid addr a b after
-
--- what writing first and then second at addr through the gate leaves: both in the log, and the last value in the working image
-pub record WritesBoth (d : Desk) (addr first second : ℕ) (answer : RunAnswer) (d' : Desk) (work' : List ℕ) : Type 0 where
-  pub answers : answer ≡ done
-  pub leaves : d' ≡ with_write (with_write d (write_of addr (first ∷ []))) (write_of addr (second ∷ []))
-  pub work_after : work' ≡ set d.image addr second
-
--- a flush, as a step of a run
-pub record EndsPair (d : Desk) (answer : RunAnswer) (d' : Desk) : Type 0 where
-  pub answers : run_answer_number answer ≡ flush_number d
-  pub leaves : d' ≡ if_done (flush_number d) (settled_desk d (readable (view d))) d
 
 -- what writing first and then second at addr leaves, once it is flushed: the log empty, and the last value in the image and in the working image
 pub record Goes (d : Desk) (addr first second : ℕ) (answer : RunAnswer) (d' : Desk) (work' : List ℕ) : Type 0 where

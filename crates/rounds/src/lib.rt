@@ -4,6 +4,9 @@
 
 #![tactic(auto)]
 
+ghost use Rattle.std.specs.Prelude.{◌≡◌};
+ghost use Rattle.rounds.specs.declared.RunError.TheVariants as run_error;
+
 use region::Refusal;
 
 // Why a run stopped early: a refusal, or a write that the gate denied, which has a number of its own.
@@ -12,6 +15,14 @@ use region::Refusal;
 pub enum RunError {
     Refused(Refusal),
     Denied,
+}
+
+impl From<Refusal> for RunError {
+    ghost from_gives = { λ why error. error ≡ run_error.Refused why };
+
+    fn from(why: Refusal) -> RunError {
+        RunError::Refused(why)
+    }
 }
 
 pub mod app_sheet;
