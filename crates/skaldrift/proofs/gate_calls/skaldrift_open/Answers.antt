@@ -3,4 +3,4 @@ use Rattle.boundary.proofs.FunctionLaws.{open_right}
 use Rattle.skaldrift.proofs.gate_calls.skaldrift_open.Goals as goal
 
 pub returns : goal.returns
-returns c = open_right c.if-state-ne-STATE_WORDS.false c.loaded-before.ensures c.stored.ensures c.answer_number.ensures c.open-opened.ensures
+returns c = open_right c.if-state-ne-STATE_WORDS.false c.loaded-opened.ensures c.stored.ensures c.answer_number.ensures c.open-answer.ensures
