@@ -12,14 +12,14 @@ use lib.Pow.{shl_exact, pow_pos}
 use Rattle.std.specs.Prelude.{None, Some, Ok, Err}
 use Rattle.std.specs.Result.{is_ok}
 use Rattle.region.specs.Limits.{points_limit}
+use Rattle.region.specs.Answer.{Answer, answer_number, unless}
+use Rattle.region.proofs.AnswerLaws.{refusal_not_done}
 use Rattle.pieces.specs.AsyncSpec.{Write, write}
 use Rattle.cuts.specs.Number.{choice_points}
 use Rattle.cuts.specs.Search.{none_bad, first_bad, finding_from}
 use Rattle.cuts.specs.Gate.{gate_numbers, gate_test}
 use Rattle.cuts.proofs.Search.{finding_at_start, finding_goes_on, finding_stops, finding_at_end}
 use Rattle.cuts.proofs.Gate.{last_trial_is_the_read_image}
-use Rattle.region.specs.Answer.{Answer, answer_number, unless}
-use Rattle.region.proofs.AnswerLaws.{refusal_not_done}
 use Rattle.sheet.specs.Sheet.{obeys, allows, well_formed, sheet_number}
 use Rattle.sheet.proofs.Laws.{before_unseen, obeyed_is_formed}
 use Rattle.desk.specs.Desk.{Desk, chunk_size, view}

@@ -7,7 +7,7 @@ use Rattle.region.specs.Limits.{image_limit, const_persistence_chunk_size}
 use Rattle.region.proofs.Booleans.{both}
 use Rattle.records.specs.Record.{no_record}
 use Rattle.records.specs.declared.Record.{Record}
-use Rattle.desk.specs.State.{records_inside, together, log_records}
+use Rattle.desk.specs.State.{records_inside, together}
 use Rattle.desk.proofs.Records.{inside_next}
 use Rattle.engine.specs.Count.{record_points}
 use Rattle.engine.proofs.PointLaws.{points_next, record_points_le}

@@ -1,5 +1,5 @@
 -- A turn tries the next number. Assumes nothing.
-use Rattle.std.proofs.Common.{◌≡◌, ◌^◌, ◌<◌, refl, sym, ◌∙◌, arith, rules}
+use Rattle.std.proofs.Common.{refl, ◌∙◌, arith, rules}
 use lib.Pow.{pow_pos}
 use Rattle.engine.proofs.SearchLaws.{judged_obeys, tried_none, tried_more, found_bad, found_none, numbers_exact, ready_points}
 use Rattle.engine.proofs.search.search.Goals as goal

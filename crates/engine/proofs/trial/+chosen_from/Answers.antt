@@ -1,5 +1,5 @@
 -- Each write takes its points off the number. Assumes nothing.
-use Rattle.std.proofs.Common.{ℕ, ◌+◌, arith, ◌∙◌}
+use Rattle.std.proofs.Common.{ℕ, arith, ◌∙◌}
 use Rattle.region.specs.Limits.{const_persistence_chunk_size}
 use Rattle.walks.proofs.Walk.{step}
 use Rattle.engine.proofs.PointLaws.{points_first}
