@@ -1,7 +1,6 @@
 // `setup` of `ExampleApp`. The source loops for ever where the address lies outside; here that is 2.
 ghost use Rattle.example.specs.Setup.{SetsUp};
 
-use pieces::lay::lay;
 use region::{IMAGE_LIMIT, Refusal};
 
 // Makes the byte at `addr` val0, and leaves every other byte.
@@ -14,6 +13,6 @@ pub fn setup(image: &mut [u8], addr: usize, val0: u8) -> Result<(), Refusal>
     if image.len() <= addr {
         return Err(Refusal::OutOfRange);
     }
-    lay(image, addr, &[val0]);
+    image[addr] = val0;
     Ok(())
 }

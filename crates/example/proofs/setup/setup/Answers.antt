@@ -1,7 +1,6 @@
 -- A line for each return. Assumes nothing.
-use Rattle.std.proofs.Common.{◌∙◌, arith}
+use Rattle.std.proofs.Common.{refl, arith}
 use Rattle.region.specs.declared.Refusal.TheVariants.{BadState, OutOfRange}
-use Rattle.rounds.proofs.ByteLog.{byte_laid}
 use Rattle.example.proofs.NumberLaws.{sets_up_refused, sets_up_done, setup_long, setup_outside, setup_inside}
 use Rattle.example.proofs.setup.setup.Goals as goal
 
@@ -18,5 +17,4 @@ returns-then-image-addr c =
 pub returns : goal.returns
 returns c =
     let a = c.args in
-    sets_up_done a.image.now a.addr a.val0 (setup_inside a.image.now a.addr a.val0 (omega arith) (omega arith))
-    (c.lay.ensures ∙ byte_laid a.image.now a.addr a.val0 (omega arith))
+    sets_up_done a.image.now a.addr a.val0 (setup_inside a.image.now a.addr a.val0 (omega arith) (omega arith)) refl
