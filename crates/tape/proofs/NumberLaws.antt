@@ -1,21 +1,21 @@
 -- Which of a tape call's tests gives its number, and what number 0 tells. Assumes nothing.
 use Prim.Native.Nat.{ℕ, ◌+◌}
-use mathlib.Core.Path.{◌≡◌, refl, ◌∙◌}
+use mathlib.Core.Path.{◌≡◌, refl, ap, ◌∙◌}
 use mathlib.Core.Bool.{Bool, true, false, beq, false≢true}
 use mathlib.Core.List.{List}
 use lib.Dec.{eqb}
 use lib.ListN.{length}
 use borrow.Author.Tests.{eq-eqb, ne_eqb, eqb-true}
+use Rattle.std.specs.Prelude.{Result, Ok}
 use Rattle.region.specs.Limits.{writes_limit}
 use Rattle.region.specs.Answer.{unless, refusal_number}
 use Rattle.region.specs.declared.Refusal.{Refusal}
 use Rattle.region.proofs.AnswerLaws.{passed, go_on, stop, both_none}
 use Rattle.region.proofs.Booleans.{cond_when, cond_unless, and_when, and_unless, both}
 use Rattle.pieces.specs.AsyncSpec.{Write, size_to_chunks}
-use Rattle.desk.specs.State.{sound_for, record_of, room_number}
+use Rattle.desk.specs.State.{sound_for, record_of}
 use Rattle.desk.specs.Desk.{chunk_size, chunks, sound, with_write}
 use Rattle.walks.specs.Kept.{KeptFrom}
-use Rattle.records.specs.declared.Record.{Record}
 use Rattle.desk.specs.declared.state.State.{State}
 use Rattle.desk.proofs.RoomLaws.{room_done}
 use Rattle.desk.proofs.Soundness.{SoundFor, Sound, sound_facts, facts_sound, Room}
@@ -23,8 +23,10 @@ use Rattle.desk.proofs.Views.{sized_of_appended, sound_after_recorded}
 use Rattle.writelog.specs.Write.{write_number}
 use Rattle.writelog.proofs.WriteLaws.{write_sound}
 use Rattle.epochs.specs.Epoch.{flush_foretold, epoch_number}
+use Rattle.epochs.specs.End.{flushing as told, ForetellsEnd}
 use Rattle.epochs.specs.Predictable.{Predictable}
-use Rattle.epochs.proofs.EpochLaws.{Epoch, epoch_facts}
+use Rattle.epochs.specs.declared.epoch.End.{End}
+use Rattle.epochs.proofs.EpochLaws.{Epoch, epoch_facts, end_foretold}
 use Rattle.tape.specs.Memory.{TapeDesk, tape_sound_for}
 use Rattle.tape.specs.Write.{tape_room_number, tape_write_number}
 use Rattle.tape.specs.Ending.{as_foretold, ending_number, tape_ending_number}
@@ -51,16 +53,6 @@ module _ (L : ℕ) (st : State) (log_length predicted_length : ℕ) where
       let parts = both (sound_for L st log_length) (eqb predicted_length L) e in
       (sound_facts L st log_length parts.0, eqb-true predicted_length L parts.1)
 
--- a write's room: 2, 3, 4, then 10 and 9 for the epoch with the new row
-module _ (C L : ℕ) (st : State) (tape : List ℕ) (start : ℕ) (r : Record) where
-  pub tape_room_goes_on : room_number L st r ≡ 0 → tape_room_number C L st tape start r ≡ epoch_number (size_to_chunks C L) (st.count + 1) tape start
-  unfolding tape_room_number
-  tape_room_goes_on e = go_on e
-
-  pub tape_room_stops : (why : Refusal) → room_number L st r ≡ refusal_number why → tape_room_number C L st tape start r ≡ refusal_number why
-  unfolding tape_room_number
-  tape_room_stops why e = stop why _ e
-
 -- what a done write tells
 pub record TapeWritten (t : TapeDesk) (tape : List ℕ) (w : Write) : Type 0 where
   pub facts : Sound t.memory
@@ -76,10 +68,10 @@ module _ (t : TapeDesk) (tape : List ℕ) (w : Write) where
   unfolding tape_write_number
   tape_write_unsound e = cond_unless good _ 1 e
 
-  pub tape_write_sound : good ≡ true
+  pub tape_write_by_room : sound t.memory ≡ true → length t.predicted ≡ length t.memory.image
       → tape_write_number t tape w ≡ tape_room_number (chunk_size t.memory) (length t.memory.image) t.memory.state tape t.start (record_of w)
   unfolding tape_write_number
-  tape_write_sound e = cond_when good _ 1 e
+  tape_write_by_room e same = cond_when good _ 1 (tape_sound_there _ t.memory.state _ _ e same)
 
   -- a write that is done by tape is done plainly
   pub plainly_done : tape_write_number t tape w ≡ 0 → write_number t.memory w ≡ 0
@@ -127,11 +119,17 @@ module _ (flushing : Bool) (C L : ℕ) (st : State) (log_length : ℕ) (tape : L
       unfolding ending_number
       ending_by_header = cond_when (tape_sound_for L st log_length predicted_length) _ 1 good ∙ go_on right
 
-      pub ending_not_foretold : as_foretold flushing tape start ≡ false → ending_number flushing C L st log_length tape start predicted_length ≡ 11
-      ending_not_foretold f = ending_by_header ∙ cond_unless (as_foretold flushing tape start) 0 11 f
-
       pub ending_foretold : as_foretold flushing tape start ≡ true → ending_number flushing C L st log_length tape start predicted_length ≡ 0
       ending_foretold f = ending_by_header ∙ cond_when (as_foretold flushing tape start) 0 11 f
+
+  -- a right epoch's header foretells an end
+  pub ending_by_end : sound_for L st log_length ≡ true → predicted_length ≡ L → epoch_number (size_to_chunks C L) st.count tape start ≡ 0
+      → (r : Result End Refusal) → ForetellsEnd tape start r
+      → (end : End) × (r ≡ Ok end) × (ending_number flushing C L st log_length tape start predicted_length ≡ unless (beq (told end) flushing) 11 0)
+  ending_by_end good same right r foretold =
+      let found = end_foretold (size_to_chunks C L) st.count tape start right r foretold in
+      let number = ending_by_header (tape_sound_there L st log_length predicted_length good same) right in
+      (found.0, found.1, number ∙ ap (λ (b : Bool). unless (beq b flushing) 11 0) found.2)
 
 -- what it means that the epoch may end so
 pub record Ending (flushing : Bool) (t : TapeDesk) (tape : List ℕ) : Type 0 where

@@ -1,23 +1,19 @@
 -- The promise of a done tape call, and of a refused one. Assumes nothing.
-use Prim.Native.Nat.{ℕ, zero, suc, ◌+◌}
-use mathlib.Core.Path.{◌≡◌, refl, sym, ap, ◌∙◌}
-use mathlib.Core.Bool.{Bool, true, false}
+use Prim.Native.Nat.{ℕ, ◌+◌}
+use mathlib.Core.Path.{◌≡◌, sym, ap, ◌∙◌}
+use mathlib.Core.Bool.{true}
 use mathlib.Core.List.{List}
-use lib.ListN.{length}
 use Rattle.std.specs.Prelude.{Err, Ok}
 use Rattle.region.specs.Answer.{refusal_number, done}
-use Rattle.region.specs.Limits.{writes_limit}
 use Rattle.region.specs.declared.Refusal.{Refusal}
 use Rattle.region.proofs.AnswerLaws.{done_changed, refused_left}
 use Rattle.pieces.specs.AsyncSpec.{Write, readable}
-use Rattle.desk.specs.State.{emptied}
-use Rattle.desk.specs.Desk.{desk, chunk_size, view}
-use Rattle.desk.specs.declared.state.State.{State}
+use Rattle.desk.specs.Desk.{chunk_size, view}
 use Rattle.writelog.specs.Cut.{kept_by_rows}
-use Rattle.writelog.proofs.CutLaws.{kept_told, refused_told}
+use Rattle.writelog.proofs.CutLaws.{kept_told}
 use Rattle.epochs.specs.Foretold.{predicted_now}
 use Rattle.epochs.proofs.PredictLaws.{predicted_flush}
-use Rattle.tape.specs.Memory.{TapeDesk, by_tape}
+use Rattle.tape.specs.Memory.{TapeDesk}
 use Rattle.tape.specs.Write.{tape_write_number, tape_written, TapeWrites}
 use Rattle.tape.specs.Ending.{tape_ending_number, epoch_ended, Settles}
 use Rattle.tape.specs.Flush.{tape_flush_number, TapeFlushes}

@@ -2,10 +2,9 @@
 -- even with an empty log".
 use Rattle.std.specs.Prelude.{ℕ, ◌≡◌, Bool, List, length}
 use Rattle.std.specs.Bool.{beq}
-use Rattle.region.specs.Limits.{writes_limit}
-use Rattle.region.specs.Answer.{answer_number, unless, if_done, or_else, Answer}
+use Rattle.region.specs.Answer.{unless, or_else}
 use Rattle.pieces.specs.AsyncSpec.{size_to_chunks}
-use Rattle.desk.specs.Desk.{Desk, chunk_size, chunks, settled_desk}
+use Rattle.desk.specs.Desk.{chunk_size, chunks, settled_desk}
 use Rattle.desk.specs.declared.state.State.{State}
 use Rattle.epochs.specs.Epoch.{flush_foretold, row_place, epoch_number}
 use Rattle.epochs.specs.Foretold.{predicted_now}

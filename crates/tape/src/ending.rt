@@ -1,12 +1,12 @@
 // The end of an epoch, by a flush or by a cut: the same tests but for the header, and the same step.
 ghost use Rattle.std.specs.Prelude.{◌≡◌, length};
 ghost use Rattle.region.specs.Answer.{answer_number};
-ghost use Rattle.region.specs.Limits.{writes_limit, const_persistence_chunk_size};
+ghost use Rattle.region.specs.Limits.{writes_limit};
 ghost use Rattle.desk.specs.Desk.{desk};
 ghost use Rattle.epochs.specs.End.{flushing};
 ghost use Rattle.epochs.specs.Predictable.{Predictable};
 ghost use Rattle.tape.specs.Memory.{by_tape};
-ghost use Rattle.tape.specs.Ending.{ending_number, Settles};
+ghost use Rattle.tape.specs.Ending.{tape_ending_number, Settles};
 
 use desk::state::State;
 use epochs::epoch::{End, Tape};
@@ -18,17 +18,20 @@ use region::chunks::size_to_chunks;
 // May the epoch end so? Document 01's 1, 10, 9 and 11.
 pub(crate) fn ending(
     state: &State,
-    size: usize,
-    log: usize,
+    image: &[u8],
+    log: &[u8],
     tape: Tape,
-    predicted: usize,
+    predicted: &[u8],
     end: End,
 ) -> Result<(), Refusal>
-    ensures { (answer_number result ≡ ending_number (flushing end) const_persistence_chunk_size size state.now log tape.entry.bytes.now tape.entry.start predicted)
-        × (length state.now.records ≡ writes_limit) }
+    ensures number { answer_number result ≡ tape_ending_number (flushing end)
+        (by_tape (desk image.now state.now log.now) tape.entry.start predicted.now)
+        tape.entry.bytes.now }
+    ensures sized { length state.now.records ≡ writes_limit }
 {
-    state.checked(size, log)?;
-    if predicted != size {
+    let size = image.len();
+    state.checked(size, log.len())?;
+    if predicted.len() != size {
         return Err(Refusal::BadState);
     }
     tape.epoch(state.count, size)?;

@@ -25,7 +25,7 @@ pub fn tape_cut(
         (by_tape (desk image.new state.new log.now) tape.new.start predicted.new) }
     ensures same_tape { tape.new.bytes ≡ tape.old.bytes }
 {
-    ending(state, image.len(), log.len(), *tape, predicted.len(), End::Cut)?;
+    ending(state, image, log, *tape, predicted, End::Cut)?;
     let rows = tape.start + 1;
     let pieces = kept(state, image.len(), tape.bytes, rows);
     settle(state, image, log, tape, predicted);

@@ -23,7 +23,7 @@ pub fn tape_flush(
         (by_tape (desk image.new state.new log.now) tape.new.start predicted.new) }
     ensures same_tape { tape.new.bytes ≡ tape.old.bytes }
 {
-    ending(state, image.len(), log.len(), *tape, predicted.len(), End::Flush)?;
+    ending(state, image, log, *tape, predicted, End::Flush)?;
     settle(state, image, log, tape, predicted);
     Ok(())
 }

@@ -17,6 +17,7 @@ use region::Refusal;
 
 // Is there room for a write with this record, and a right row for it on the tape? Document 01's 2, 3,
 // 4, 10 and 9.
+#[tactic(auto, unfolding(crate::specs::Write::tape_room_number))]
 fn tape_room(state: &State, size: usize, used: usize, tape: Tape, r: Record) -> Result<(), Refusal>
     requires { (used ≡ together (log_records state.now)) × (used ≤ log_limit) × (size ≤ image_limit) }
     ensures { answer_number result ≡ tape_room_number const_persistence_chunk_size size state.now tape.entry.bytes.now tape.entry.start r }

@@ -6,7 +6,7 @@ use Rattle.tape.proofs.PromiseLaws.{tape_flushes_done}
 use Rattle.tape.proofs.tape_flush.tape_flush.Goals as goal
 
 pub settle-requires : goal.settle-requires
-settle-requires c = predictable_now c.ending.ensures.1 (ending_done _ _ _ (sym c.ending.ensures.0 ∙ ap answer_number c.in_ok-ending.was))
+settle-requires c = predictable_now c.ending.ensures.sized (ending_done _ _ _ (sym c.ending.ensures.number ∙ ap answer_number c.in_ok-ending.was))
 
 pub returns-clause-flushes : goal.returns-clause-flushes
-returns-clause-flushes c = tape_flushes_done c.settle.ensures.settles (sym c.ending.ensures.0 ∙ ap answer_number c.in_ok-ending.was)
+returns-clause-flushes c = tape_flushes_done c.settle.ensures.settles (sym c.ending.ensures.number ∙ ap answer_number c.in_ok-ending.was)

@@ -6,15 +6,23 @@ use Rattle.std.proofs.lemmas.Result.{err_from_is_err_and}
 use Rattle.region.specs.Answer.{answer_number}
 use Rattle.region.specs.Pmemspec.{update_bytes}
 use Rattle.region.specs.declared.Refusal.TheVariants.{BadState}
+use Rattle.pieces.specs.AsyncSpec.{Write}
 use Rattle.pieces.specs.Handed.{handed}
+use Rattle.desk.specs.State.{log_records, together, record_of, appended}
 use Rattle.desk.specs.Desk.{Desk, desk, with_write}
+use Rattle.desk.specs.declared.state.State.{State}
 use Rattle.desk.proofs.Soundness.{told_bytes, told_stopped}
 use Rattle.epochs.specs.Predictable.{Predictable}
 use Rattle.epochs.specs.Foretold.{predicted_now}
 use Rattle.tape.specs.Memory.{by_tape}
-use Rattle.tape.proofs.NumberLaws.{unsound, missized, tape_sound_there, tape_write_unsound, tape_write_sound, tape_write_done, predictable_with}
+use Rattle.tape.proofs.NumberLaws.{unsound, missized, tape_write_unsound, tape_write_by_room, tape_write_done, predictable_with}
 use Rattle.tape.proofs.PromiseLaws.{tape_writes_done, tape_writes_refused}
 use Rattle.tape.proofs.tape_write.tape_write.Goals as goal
+
+-- what `push` leaves is the desk with the write
+pushed : (d : Desk) (w : Write) {used : ℕ} {st' : State} {log' : List ℕ} → (st' ≡ appended d.state (record_of w)) × (log' ≡ update_bytes d.log used w.bytes)
+    → used ≡ together (log_records d.state) → desk d.image st' log' ≡ with_write d w
+pushed d w put counted = ap₂ (desk d.image) put.0 (put.1 ∙ ap (λ (n : ℕ). update_bytes d.log n w.bytes) counted)
 
 pub returns-in_err-used : goal.returns-in_err-used
 returns-in_err-used c =
@@ -38,17 +46,17 @@ returns-in_err-tape_room c =
     let a = c.args in
     let t = by_tape (desk a.image.now a.state.now a.log.now) a.tape.start a.predicted.now in
     let told = told_bytes _ a.state.now _ c.checked.ensures.0 c.in_ok-used.was in
-    let sound = tape_write_sound t a.tape.bytes.now (handed a.write) (tape_sound_there _ a.state.now _ _ told.good c.if-predicted-image.false) in
+    let number = tape_write_by_room t a.tape.bytes.now (handed a.write) told.good c.if-predicted-image.false ∙ sym c.tape_room.ensures in
     let passed = err_from_is_err_and c.from_residual-in_err-tape_room.result c.from_residual-in_err-tape_room.ensures.1 in
-    rw (passed.1, passed.2) (tape_writes_refused c.in_err-tape_room.field-0.0 (sound ∙ sym c.tape_room.ensures ∙ ap answer_number c.in_err-tape_room.was))
+    rw (passed.1, passed.2) (tape_writes_refused c.in_err-tape_room.field-0.0 (number ∙ ap answer_number c.in_err-tape_room.was))
 
 pub push-requires : goal.push-requires
 push-requires c =
     let a = c.args in
     let t = by_tape (desk a.image.now a.state.now a.log.now) a.tape.start a.predicted.now in
     let told = told_bytes _ a.state.now _ c.checked.ensures.0 c.in_ok-used.was in
-    let sound = tape_write_sound t a.tape.bytes.now (handed a.write) (tape_sound_there _ a.state.now _ _ told.good c.if-predicted-image.false) in
-    let room = (tape_write_done (sound ∙ sym c.tape_room.ensures ∙ ap answer_number c.in_ok-tape_room.was)).room in
+    let number = tape_write_by_room t a.tape.bytes.now (handed a.write) told.good c.if-predicted-image.false ∙ sym c.tape_room.ensures in
+    let room = (tape_write_done (number ∙ ap answer_number c.in_ok-tape_room.was)).room in
     (room.few, omega (arith, told.counted, told.facts.buffer, room.fits))
 
 pub predict-requires : goal.predict-requires
@@ -57,11 +65,10 @@ predict-requires c =
     let d = desk a.image.now a.state.now a.log.now in
     let t = by_tape d a.tape.start a.predicted.now in
     let told = told_bytes _ a.state.now _ c.checked.ensures.0 c.in_ok-used.was in
-    let sound = tape_write_sound t a.tape.bytes.now (handed a.write) (tape_sound_there _ a.state.now _ _ told.good c.if-predicted-image.false) in
-    let with : desk a.image.now c.push.new.self c.push.new.log ≡ with_write d (handed a.write) =
-    ap₂ (desk a.image.now) c.push.ensures.0 (c.push.ensures.1 ∙ ap (λ (n : ℕ). update_bytes a.log.now n a.write.bytes.now) told.counted) in
+    let number = tape_write_by_room t a.tape.bytes.now (handed a.write) told.good c.if-predicted-image.false ∙ sym c.tape_room.ensures in
+    let with = pushed d (handed a.write) c.push.ensures told.counted in
     subst⁻¹ (λ (d : Desk). Predictable d a.tape.bytes.now a.tape.start (length a.predicted.now)) with
-    (predictable_with c.checked.ensures.1 (tape_write_done (sound ∙ sym c.tape_room.ensures ∙ ap answer_number c.in_ok-tape_room.was)))
+    (predictable_with c.checked.ensures.1 (tape_write_done (number ∙ ap answer_number c.in_ok-tape_room.was)))
 
 pub returns : goal.returns
 returns c =
@@ -69,9 +76,8 @@ returns c =
     let d = desk a.image.now a.state.now a.log.now in
     let t = by_tape d a.tape.start a.predicted.now in
     let told = told_bytes _ a.state.now _ c.checked.ensures.0 c.in_ok-used.was in
-    let sound = tape_write_sound t a.tape.bytes.now (handed a.write) (tape_sound_there _ a.state.now _ _ told.good c.if-predicted-image.false) in
-    let with : desk a.image.now c.push.new.self c.push.new.log ≡ with_write d (handed a.write) =
-    ap₂ (desk a.image.now) c.push.ensures.0 (c.push.ensures.1 ∙ ap (λ (n : ℕ). update_bytes a.log.now n a.write.bytes.now) told.counted) in
-    tape_writes_done (sound ∙ sym c.tape_room.ensures ∙ ap answer_number c.in_ok-tape_room.was)
+    let number = tape_write_by_room t a.tape.bytes.now (handed a.write) told.good c.if-predicted-image.false ∙ sym c.tape_room.ensures in
+    let with = pushed d (handed a.write) c.push.ensures told.counted in
+    tape_writes_done (number ∙ ap answer_number c.in_ok-tape_room.was)
     (ap₂ (λ (d : Desk) (p : List ℕ). by_tape d a.tape.start p) with
     (c.predict.ensures ∙ ap (λ (d : Desk). predicted_now d a.tape.bytes.now a.tape.start) with))
