@@ -1,14 +1,14 @@
 // The example application. Made by peer/src/bin/sample.rs.
-use crate::fill::log;
-use crate::print::{end, image_bytes, log_bytes, number, work_bytes};
+use crate::fill::filled;
+use crate::print::places;
 use skaldrift::example_calls::{skaldrift_run, skaldrift_setup};
 use std::io;
 
 fn setup(rt: &impl Print, image: &mut [u8], addr: u64, val0: u8) -> io::Result<()> {
     let answer = skaldrift_setup(image, addr, val0);
-    number(rt, "setup", answer)?;
-    image_bytes(rt, image)?;
-    end(rt)
+    print!(rt; "setup {answer}")?;
+    places(rt, "image", image)?;
+    println!(rt)
 }
 
 fn setup_0(rt: &impl Print) -> io::Result<()> {
@@ -30,18 +30,18 @@ fn run(
     rounds: u64,
 ) -> io::Result<()> {
     let answer = skaldrift_run(image, &mut log, work, addr, val0, val1, rounds);
-    number(rt, "run", answer)?;
-    image_bytes(rt, image)?;
-    log_bytes(rt, &log)?;
-    work_bytes(rt, work)?;
-    end(rt)
+    print!(rt; "run {answer}")?;
+    places(rt, "image", image)?;
+    places(rt, "log", &log)?;
+    places(rt, "work", work)?;
+    println!(rt)
 }
 
 fn run_0(rt: &impl Print) -> io::Result<()> {
     run(
         rt,
         &mut [1, 1, 1, 0, 1, 1, 122],
-        log(&[]),
+        filled(&[]),
         &mut [0, 1, 0, 1, 1, 1, 1],
         6,
         122,
@@ -54,7 +54,7 @@ fn run_6(rt: &impl Print) -> io::Result<()> {
     run(
         rt,
         &mut [235, 103, 143, 228, 71, 176, 89, 14, 151],
-        log(&[]),
+        filled(&[]),
         &mut [3, 0, 0, 3, 3, 2, 1, 0, 2],
         3,
         24,

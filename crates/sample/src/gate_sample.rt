@@ -1,6 +1,6 @@
 // Opening, the judging call and the gate. Made by peer/src/bin/sample.rs.
-use crate::fill::{log, state};
-use crate::print::{end, log_bytes, number, report_number, state_words, work_bytes};
+use crate::fill::filled;
+use crate::print::places;
 use skaldrift::gate_calls::{skaldrift_gate, skaldrift_judge, skaldrift_open};
 use std::io;
 
@@ -12,17 +12,17 @@ fn open(
     sheet: &[u8],
 ) -> io::Result<()> {
     let answer = skaldrift_open(&mut state, image, &log, sheet);
-    number(rt, "open", answer)?;
-    state_words(rt, &state)?;
-    end(rt)
+    print!(rt; "open {answer}")?;
+    places(rt, "state", &state)?;
+    println!(rt)
 }
 
 fn open_0(rt: &impl Print) -> io::Result<()> {
     open(
         rt,
-        state(&[34]),
+        filled(&[34]),
         &[1, 0, 0, 1, 1, 1, 0, 1, 0, 0, 0, 0, 0, 0, 1, 1, 1, 1],
-        log(&[]),
+        filled(&[]),
         &[20, 0, 20, 0, 20],
     )
 }
@@ -30,9 +30,9 @@ fn open_0(rt: &impl Print) -> io::Result<()> {
 fn open_6(rt: &impl Print) -> io::Result<()> {
     open(
         rt,
-        state(&[1]),
+        filled(&[1]),
         &[],
-        log(&[]),
+        filled(&[]),
         &[28, 32, 0, 0, 0, 12, 0, 0, 0, 0],
     )
 }
@@ -49,18 +49,18 @@ fn judge(
     mut report: u64,
 ) -> io::Result<()> {
     let answer = skaldrift_judge(&state, image, &log, sheet, work, addr, data, &mut report);
-    number(rt, "judge", answer)?;
-    work_bytes(rt, work)?;
-    report_number(rt, report)?;
-    end(rt)
+    print!(rt; "judge {answer}")?;
+    places(rt, "work", work)?;
+    print!(rt; " report {report}")?;
+    println!(rt)
 }
 
 fn judge_0(rt: &impl Print) -> io::Result<()> {
     judge(
         rt,
-        state(&[]),
+        filled(&[]),
         &[0; 18],
-        log(&[]),
+        filled(&[]),
         &[24, 0],
         &mut [0, 1, 1, 1, 1, 0, 0, 1, 1, 1, 0, 0, 0, 1, 1, 0, 1, 0],
         14,
@@ -72,9 +72,9 @@ fn judge_0(rt: &impl Print) -> io::Result<()> {
 fn judge_8(rt: &impl Print) -> io::Result<()> {
     judge(
         rt,
-        state(&[2, 1, 0, 1]),
+        filled(&[2, 1, 0, 1]),
         &[1],
-        log(&[]),
+        filled(&[]),
         &[16, 0, 0, 4, 4],
         &mut [49],
         0,
@@ -104,20 +104,20 @@ fn gate(
         data,
         &mut report,
     );
-    number(rt, "gate", answer)?;
-    state_words(rt, &state)?;
-    log_bytes(rt, &log)?;
-    work_bytes(rt, work)?;
-    report_number(rt, report)?;
-    end(rt)
+    print!(rt; "gate {answer}")?;
+    places(rt, "state", &state)?;
+    places(rt, "log", &log)?;
+    places(rt, "work", work)?;
+    print!(rt; " report {report}")?;
+    println!(rt)
 }
 
 fn gate_0(rt: &impl Print) -> io::Result<()> {
     gate(
         rt,
-        state(&[4, 1, 1, 0, 0, 1, 1, 2]),
+        filled(&[4, 1, 1, 0, 0, 1, 1, 2]),
         &[158, 114],
-        log(&[1, 1]),
+        filled(&[1, 1]),
         &[20, 0, 0, 0, 0],
         &mut [0, 1],
         1,
@@ -129,9 +129,9 @@ fn gate_0(rt: &impl Print) -> io::Result<()> {
 fn gate_8(rt: &impl Print) -> io::Result<()> {
     gate(
         rt,
-        state(&[1, 1, 1]),
+        filled(&[1, 1, 1]),
         &[1, 0],
-        log(&[1]),
+        filled(&[1]),
         &[16, 0, 0, 4, 12],
         &mut [1, 0],
         0,

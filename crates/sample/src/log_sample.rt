@@ -1,6 +1,6 @@
 // Plain write, read, flush and cut. Made by peer/src/bin/sample.rs.
-use crate::fill::{log, state};
-use crate::print::{end, image_bytes, log_bytes, number, report_number, state_words, work_bytes};
+use crate::fill::filled;
+use crate::print::places;
 use skaldrift::log_calls::{skaldrift_cut, skaldrift_flush, skaldrift_read, skaldrift_write};
 use std::io;
 
@@ -13,25 +13,25 @@ fn write(
     data: &[u8],
 ) -> io::Result<()> {
     let answer = skaldrift_write(&mut state, image, &mut log, addr, data);
-    number(rt, "write", answer)?;
-    state_words(rt, &state)?;
-    log_bytes(rt, &log)?;
-    end(rt)
+    print!(rt; "write {answer}")?;
+    places(rt, "state", &state)?;
+    places(rt, "log", &log)?;
+    println!(rt)
 }
 
 fn write_0(rt: &impl Print) -> io::Result<()> {
-    write(rt, state(&[]), &[67, 175], log(&[]), 0, &[3, 1])
+    write(rt, filled(&[]), &[67, 175], filled(&[]), 0, &[3, 1])
 }
 
 fn write_4(rt: &impl Print) -> io::Result<()> {
     write(
         rt,
-        state(&[
+        filled(&[
             10, 93, 103, 87, 103, 8, 103, 72, 103, 15, 103, 25, 103, 86, 103, 37, 104, 6, 103, 58,
             96,
         ]),
         &[0; 196],
-        log(&[
+        filled(&[
             192, 21, 74, 51, 98, 65, 194, 198, 28, 128, 118, 77, 45, 223, 31, 31,
         ]),
         6,
@@ -49,17 +49,17 @@ fn read(
     len: u64,
 ) -> io::Result<()> {
     let answer = skaldrift_read(&state, image, &log, work, addr, len);
-    number(rt, "read", answer)?;
-    work_bytes(rt, work)?;
-    end(rt)
+    print!(rt; "read {answer}")?;
+    places(rt, "work", work)?;
+    println!(rt)
 }
 
 fn read_0(rt: &impl Print) -> io::Result<()> {
     read(
         rt,
-        state(&[2, 7, 1, 8]),
+        filled(&[2, 7, 1, 8]),
         &[0, 0, 1, 0, 0, 0, 0, 0],
-        log(&[]),
+        filled(&[]),
         &mut [0, 1, 0, 1, 1, 0, 0, 1],
         7,
         1,
@@ -69,9 +69,9 @@ fn read_0(rt: &impl Print) -> io::Result<()> {
 fn read_2(rt: &impl Print) -> io::Result<()> {
     read(
         rt,
-        state(&[1, 6]),
+        filled(&[1, 6]),
         &[0, 1, 1, 1, 0, 0, 0, 1],
-        log(&[]),
+        filled(&[]),
         &mut [0, 0, 0, 0, 0, 0, 0, 0],
         18446744073709551615,
         0,
@@ -80,20 +80,20 @@ fn read_2(rt: &impl Print) -> io::Result<()> {
 
 fn flush(rt: &impl Print, mut state: [u64; 65], image: &mut [u8], log: &[u8]) -> io::Result<()> {
     let answer = skaldrift_flush(&mut state, image, log);
-    number(rt, "flush", answer)?;
-    state_words(rt, &state)?;
-    image_bytes(rt, image)?;
-    end(rt)
+    print!(rt; "flush {answer}")?;
+    places(rt, "state", &state)?;
+    places(rt, "image", image)?;
+    println!(rt)
 }
 
 fn flush_0(rt: &impl Print) -> io::Result<()> {
-    flush(rt, state(&[]), &mut [0, 0, 0, 0, 0, 0, 0, 0], &[0; 1024])
+    flush(rt, filled(&[]), &mut [0, 0, 0, 0, 0, 0, 0, 0], &[0; 1024])
 }
 
 fn flush_1(rt: &impl Print) -> io::Result<()> {
     flush(
         rt,
-        state(&[3, 11, 3, 8, 4, 4, 3]),
+        filled(&[3, 11, 3, 8, 4, 4, 3]),
         &mut [
             247, 95, 113, 30, 129, 91, 19, 129, 235, 182, 106, 185, 58, 196, 134, 65,
         ],
@@ -110,19 +110,19 @@ fn cut(
     mut report: u64,
 ) -> io::Result<()> {
     let answer = skaldrift_cut(&mut state, image, &log, rows, &mut report);
-    number(rt, "cut", answer)?;
-    state_words(rt, &state)?;
-    image_bytes(rt, image)?;
-    report_number(rt, report)?;
-    end(rt)
+    print!(rt; "cut {answer}")?;
+    places(rt, "state", &state)?;
+    places(rt, "image", image)?;
+    print!(rt; " report {report}")?;
+    println!(rt)
 }
 
 fn cut_0(rt: &impl Print) -> io::Result<()> {
     cut(
         rt,
-        state(&[3, 15, 3, 24, 2, 55, 4]),
+        filled(&[3, 15, 3, 24, 2, 55, 4]),
         &mut [0; 63],
-        log(&[0, 0, 1, 155, 219, 1, 0, 2]),
+        filled(&[0, 0, 1, 155, 219, 1, 0, 2]),
         &[0, 27, 26],
         16045481050594344959,
     )
@@ -131,9 +131,9 @@ fn cut_0(rt: &impl Print) -> io::Result<()> {
 fn cut_9(rt: &impl Print) -> io::Result<()> {
     cut(
         rt,
-        state(&[1]),
+        filled(&[1]),
         &mut [0, 3, 2, 2, 1, 3, 3],
-        log(&[]),
+        filled(&[]),
         &[],
         16747018134532354844,
     )

@@ -1,8 +1,6 @@
 // Write, flush and cut by tape. Made by peer/src/bin/sample.rs.
-use crate::fill::{log, state};
-use crate::print::{
-    end, image_bytes, log_bytes, number, predicted_bytes, report_number, start_number, state_words,
-};
+use crate::fill::filled;
+use crate::print::places;
 use skaldrift::tape_calls::{skaldrift_tape_cut, skaldrift_tape_flush, skaldrift_tape_write};
 use std::io;
 
@@ -20,19 +18,19 @@ fn tape_write(
     let answer = skaldrift_tape_write(
         &mut state, image, &mut log, tape, start, predicted, addr, data,
     );
-    number(rt, "tape_write", answer)?;
-    state_words(rt, &state)?;
-    log_bytes(rt, &log)?;
-    predicted_bytes(rt, predicted)?;
-    end(rt)
+    print!(rt; "tape_write {answer}")?;
+    places(rt, "state", &state)?;
+    places(rt, "log", &log)?;
+    places(rt, "predicted", predicted)?;
+    println!(rt)
 }
 
 fn tape_write_0(rt: &impl Print) -> io::Result<()> {
     tape_write(
         rt,
-        state(&[2, 0, 2, 2]),
+        filled(&[2, 0, 2, 2]),
         &[0, 0],
-        log(&[]),
+        filled(&[]),
         &[0, 0, 0, 0],
         0,
         &mut [3, 2],
@@ -44,9 +42,9 @@ fn tape_write_0(rt: &impl Print) -> io::Result<()> {
 fn tape_write_9(rt: &impl Print) -> io::Result<()> {
     tape_write(
         rt,
-        state(&[2]),
+        filled(&[2]),
         &[0],
-        log(&[]),
+        filled(&[]),
         &[0, 0, 1, 1, 1, 1, 1, 0, 1, 0],
         0,
         &mut [0],
@@ -65,20 +63,20 @@ fn tape_flush(
     predicted: &mut [u8],
 ) -> io::Result<()> {
     let answer = skaldrift_tape_flush(&mut state, image, &log, tape, &mut start, predicted);
-    number(rt, "tape_flush", answer)?;
-    state_words(rt, &state)?;
-    image_bytes(rt, image)?;
-    start_number(rt, start)?;
-    predicted_bytes(rt, predicted)?;
-    end(rt)
+    print!(rt; "tape_flush {answer}")?;
+    places(rt, "state", &state)?;
+    places(rt, "image", image)?;
+    print!(rt; " start {start}")?;
+    places(rt, "predicted", predicted)?;
+    println!(rt)
 }
 
 fn tape_flush_0(rt: &impl Print) -> io::Result<()> {
     tape_flush(
         rt,
-        state(&[3, 4, 3, 6, 1, 7]),
+        filled(&[3, 4, 3, 6, 1, 7]),
         &mut [189, 148, 251, 194, 103, 225, 167],
-        log(&[2, 0, 1]),
+        filled(&[2, 0, 1]),
         &[128, 0, 0, 0, 0],
         0,
         &mut [0, 1, 0, 1, 0, 1, 0],
@@ -88,9 +86,9 @@ fn tape_flush_0(rt: &impl Print) -> io::Result<()> {
 fn tape_flush_11(rt: &impl Print) -> io::Result<()> {
     tape_flush(
         rt,
-        state(&[1, 1, 4]),
+        filled(&[1, 1, 4]),
         &mut [0; 9],
-        log(&[]),
+        filled(&[]),
         &[0, 0],
         0,
         &mut [1, 0, 0, 0, 1, 1, 1, 1, 0],
@@ -116,21 +114,21 @@ fn tape_cut(
         predicted,
         &mut report,
     );
-    number(rt, "tape_cut", answer)?;
-    state_words(rt, &state)?;
-    image_bytes(rt, image)?;
-    start_number(rt, start)?;
-    predicted_bytes(rt, predicted)?;
-    report_number(rt, report)?;
-    end(rt)
+    print!(rt; "tape_cut {answer}")?;
+    places(rt, "state", &state)?;
+    places(rt, "image", image)?;
+    print!(rt; " start {start}")?;
+    places(rt, "predicted", predicted)?;
+    print!(rt; " report {report}")?;
+    println!(rt)
 }
 
 fn tape_cut_0(rt: &impl Print) -> io::Result<()> {
     tape_cut(
         rt,
-        state(&[2, 1, 0, 0, 1]),
+        filled(&[2, 1, 0, 0, 1]),
         &mut [0],
-        log(&[]),
+        filled(&[]),
         &[1, 0, 0, 128],
         1,
         &mut [1],
@@ -141,9 +139,9 @@ fn tape_cut_0(rt: &impl Print) -> io::Result<()> {
 fn tape_cut_11(rt: &impl Print) -> io::Result<()> {
     tape_cut(
         rt,
-        state(&[3, 15, 0, 4, 1, 15]),
+        filled(&[3, 15, 0, 4, 1, 15]),
         &mut [0; 15],
-        log(&[1]),
+        filled(&[1]),
         &[0, 0, 0, 0, 0, 128, 128, 64, 0],
         5,
         &mut [0; 15],

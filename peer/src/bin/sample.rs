@@ -26,25 +26,6 @@ const MOST_ZEROS: usize = 8;
 const STATE_WORDS: usize = 65;
 const LOG_BYTES: usize = 1024;
 
-/// What the program's own functions give.
-const PARTS: [(&str, &[&str]); 2] = [
-    ("fill", &["log", "state"]),
-    (
-        "print",
-        &[
-            "end",
-            "image_bytes",
-            "log_bytes",
-            "number",
-            "predicted_bytes",
-            "report_number",
-            "start_number",
-            "state_words",
-            "work_bytes",
-        ],
-    ),
-];
-
 struct File {
     name: &'static str,
     head: &'static str,
@@ -116,7 +97,7 @@ fn program(rng: &mut Rng, file: &File, answers: &mut String) -> String {
         }
     }
     let replay = replay.join("?;\n    ");
-    let head = heading(file, &functions);
+    let head = heading(file);
     format!(
         "{head}{functions}pub fn replay(rt: &impl Print) -> io::Result<()> {{\n    {replay}\n}}\n"
     )
@@ -134,15 +115,9 @@ fn whole(cases: &[(u64, Case)]) -> Vec<Field> {
     fields
 }
 
-fn heading(file: &File, functions: &str) -> String {
+fn heading(file: &File) -> String {
     let mut text = format!("// {} Made by peer/src/bin/sample.rs.\n", file.head);
-    for (module, parts) in PARTS {
-        let named = |name: &&str| {
-            [' ', '('].iter().any(|before| functions.contains(&format!("{before}{name}(")))
-        };
-        let names = parts.iter().copied().filter(named).map(str::to_string).collect();
-        text.push_str(&import(&format!("crate::{module}"), names));
-    }
+    text.push_str("use crate::fill::filled;\nuse crate::print::places;\n");
     let calls = file.calls.iter().map(|call| format!("skaldrift_{}", call.name())).collect();
     text.push_str(&import(&format!("skaldrift::{}", file.module), calls));
     text.push_str("use std::io;\n\n");
@@ -240,16 +215,17 @@ fn calling(call: Call, whole: &[Field]) -> String {
     for field in starred(call) {
         let (name, lent) = (field.name(), if whole.contains(field) { "&" } else { "" });
         let _ = match field {
-            Field::State => writeln!(shown, "    state_words(rt, {lent}state)?;"),
-            Field::Start | Field::Report => writeln!(shown, "    {name}_number(rt, {name})?;"),
-            _ => writeln!(shown, "    {name}_bytes(rt, {lent}{name})?;"),
+            Field::Start | Field::Report => {
+                writeln!(shown, "    print!(rt; \" {name} {{{name}}}\")?;")
+            }
+            _ => writeln!(shown, "    places(rt, \"{name}\", {lent}{name})?;"),
         };
     }
     let (name, parameters, passed) = (call.name(), parameters.join(", "), passed.join(", "));
     format!(
         "fn {name}({parameters}) -> io::Result<()> {{\n    \
          let answer = skaldrift_{name}({passed});\n    \
-         number(rt, \"{name}\", answer)?;\n{shown}    end(rt)\n}}\n\n"
+         print!(rt; \"{name} {{answer}}\")?;\n{shown}    println!(rt)\n}}\n\n"
     )
 }
 
@@ -273,12 +249,8 @@ fn function(case: &Case, wanted: u64, whole: &[Field]) -> String {
 fn passed(case: &Case, field: Field, whole: &[Field]) -> String {
     let changed = if starred(case.call).contains(&field) { "mut " } else { "" };
     match (field, case.bytes(field)) {
-        (Field::State, _) if whole.contains(&field) => {
-            format!("state(&{:?})", &case.state[..used(&case.state)])
-        }
-        (Field::Log, _) if whole.contains(&field) => {
-            format!("log(&{:?})", &case.log[..used(&case.log)])
-        }
+        (Field::State, _) if whole.contains(&field) => filled(&case.state),
+        (_, Some(bytes)) if whole.contains(&field) => filled(bytes),
         (Field::State, _) => format!("&{changed}{}", literal(&case.state)),
         (_, Some(bytes)) => format!("&{changed}{}", literal(bytes)),
         (Field::Start, _) => case.start.to_string(),
@@ -290,6 +262,11 @@ fn passed(case: &Case, field: Field, whole: &[Field]) -> String {
         (Field::Rounds, _) => case.rounds.to_string(),
         _ => unreachable!("{} is a buffer", field.name()),
     }
+}
+
+/// A buffer of a desk's length, of which the places that are not zero are written out.
+fn filled<T: Default + PartialEq + std::fmt::Debug>(values: &[T]) -> String {
+    format!("filled(&{:?})", &values[..used(values)])
 }
 
 fn literal<T: Default + PartialEq + std::fmt::Debug>(values: &[T]) -> String {
