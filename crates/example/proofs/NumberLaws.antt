@@ -66,16 +66,6 @@ module _ (L log_length work_length addr rounds : ℕ) where
     pub lies : addr < L
     pub few : rounds ≤ rounds_limit
 
-  pub fits_done : Fit → number ≡ 0
-  fits_done f =
-      rw (
-        le-leb L image_limit f.short,
-        eq-eqb log_length log_limit f.buffer,
-        eq-eqb work_length L f.same,
-        le-leb (addr + 1) L (omega (arith, f.lies)),
-        le-leb rounds rounds_limit f.few,
-      )
-
   pub number_0_fits : number ≡ 0 → Fit
   number_0_fits e =
       let f₁ = passed {good = leb L image_limit && eqb log_length log_limit && eqb work_length L} 0 e in
@@ -91,6 +81,16 @@ module _ (L log_length work_length addr rounds : ℕ) where
         lies = omega (arith, inside);
         few = leb-true rounds rounds_limit f₃.0;
       }
+
+  pub fits_done : Fit → number ≡ 0
+  fits_done f =
+      rw (
+        le-leb L image_limit f.short,
+        eq-eqb log_length log_limit f.buffer,
+        eq-eqb work_length L f.same,
+        le-leb (addr + 1) L (omega (arith, f.lies)),
+        le-leb rounds rounds_limit f.few,
+      )
 
 module _ (image log work : List ℕ) (addr val0 val1 rounds : ℕ) where
   abbrev run_is : ℕ
