@@ -13,19 +13,19 @@ use records::Record;
 use region::{LOG_LIMIT, Refusal, WRITES_LIMIT};
 
 impl State {
-    // Is there room for a write with this record where `used` bytes are outstanding? Document 01's 2, 3
-    // and 4.
-    pub fn room(&self, size: usize, used: usize, r: Record) -> Result<(), Refusal>
+    // Is there room for this write where `used` bytes are outstanding? Document 01's 2, 3 and 4.
+    pub fn room(&self, size: usize, used: usize, write: Write) -> Result<(), Refusal>
         requires { (used ≡ together (log_records self.now)) × (used ≤ log_limit) }
-        ensures { answer_number result ≡ room_number size self.now r }
+        ensures { answer_number result ≡ room_number size self.now (record_of (handed write.entry)) }
     {
-        if !within(r.addr, r.len, size) {
+        let len = write.bytes.len();
+        if !within(write.addr, len, size) {
             return Err(Refusal::OutOfRange);
         }
         if WRITES_LIMIT <= self.count {
             return Err(Refusal::TooManyWrites);
         }
-        if LOG_LIMIT - used < r.len {
+        if LOG_LIMIT - used < len {
             return Err(Refusal::TooManyBytes);
         }
         Ok(())

@@ -12,7 +12,6 @@ use sheet::judge;
 // Tries all numbers from 0 to 2^points - 1. What it leaves in `work` is its last trial: the first
 // bad image, or the read image, which the last number leaves. Answers the first bad number. A sheet
 // that is malformed nothing obeys.
-#[inline(always)]
 pub fn search(
     state: &State,
     image: &[u8],

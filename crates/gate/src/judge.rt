@@ -11,7 +11,6 @@ use engine::count::log_points;
 use engine::search::search;
 use pieces::Write;
 use pieces::points::touched;
-use records::Record;
 use region::{POINTS_LIMIT, Refusal};
 
 // Is the sheet well-formed? That is so for any image or none.
@@ -22,7 +21,6 @@ fn formed(sheet: &[u8], image: &[u8]) -> bool
 }
 
 // The judging of a write that fits, from 7 on: the engine is asked if the points are few enough.
-#[inline(always)]
 fn weigh(
     state: &State,
     image: &[u8],
@@ -46,7 +44,6 @@ fn weigh(
 }
 
 // The judging of a sound state with `used` outstanding bytes.
-#[inline(always)]
 pub(crate) fn decide(
     state: &State,
     used: usize,
@@ -66,11 +63,7 @@ pub(crate) fn decide(
     if !formed(sheet, image) {
         return Err(Refusal::BadSheet);
     }
-    let r = Record {
-        addr: write.addr,
-        len: write.bytes.len(),
-    };
-    state.room(image.len(), used, r)?;
+    state.room(image.len(), used, write)?;
     weigh(state, image, log, sheet, work, write)
 }
 
