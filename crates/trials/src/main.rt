@@ -9,6 +9,7 @@ mod gate_trials;
 mod log_trials;
 mod long_sheets;
 mod print;
+mod small;
 mod tape_trials;
 mod viewer_trials;
 

@@ -1,62 +1,85 @@
-// What the trials print: a name, numbers, bytes in hex, and the answers by their numbers.
+// What the trials print: an answer as document 01's number with what it reports, and bytes in hex.
 use gate::Verdict;
-use region::numbers::refusal_number;
-use std::io;
+use region::Refusal;
+use region::numbers::answer_number;
+use std::{fmt, io};
 
-pub fn name(rt: &impl Print, text: &str) -> io::Result<()> {
-    print!(rt; "{text}")
+// An answer's number, and the count or the m that it reports where it reports one.
+#[derive(Clone, Copy)]
+pub struct Answer {
+    number: u64,
+    report: Option<usize>,
 }
 
-pub fn number(rt: &impl Print, n: u64) -> io::Result<()> {
-    print!(rt; " {n}")
+impl Answer {
+    fn reporting(number: u64, value: usize) -> Answer {
+        Answer {
+            number,
+            report: Some(value),
+        }
+    }
+
+    fn refused(why: Refusal) -> Answer {
+        Answer {
+            number: why.into(),
+            report: None,
+        }
+    }
 }
 
-pub fn end(rt: &impl Print) -> io::Result<()> {
-    println!(rt)
+impl From<Result<(), Refusal>> for Answer {
+    fn from(answer: Result<(), Refusal>) -> Answer {
+        Answer {
+            number: answer_number(answer),
+            report: None,
+        }
+    }
 }
 
-pub fn byte(rt: &impl Print, b: u8) -> io::Result<()> {
-    print!(rt; " {b:02x}")
+impl From<Result<usize, Refusal>> for Answer {
+    fn from(kept: Result<usize, Refusal>) -> Answer {
+        match kept {
+            Ok(pieces) => Answer::reporting(0, pieces),
+            Err(why) => Answer::refused(why),
+        }
+    }
 }
 
-// The bytes of a slice in hex.
+impl From<Result<Verdict, Refusal>> for Answer {
+    fn from(verdict: Result<Verdict, Refusal>) -> Answer {
+        match verdict {
+            Ok(Verdict::Admitted(n)) => Answer::reporting(0, n),
+            Ok(Verdict::Denied(m)) => Answer::reporting(8, m),
+            Err(why) => Answer::refused(why),
+        }
+    }
+}
+
+impl fmt::Display for Answer {
+    fn fmt<W: fmt::Write>(&self, f: &mut fmt::Formatter<W>) -> fmt::Result {
+        let number = self.number;
+        write!(f, "{number}")?;
+        match self.report {
+            Some(value) => write!(f, " {value}"),
+            None => Ok(()),
+        }
+    }
+}
+
+pub fn show(rt: &impl Print, answer: impl Into<Answer>) -> io::Result<()> {
+    let answer: Answer = answer.into();
+    print!(rt; " {answer}")
+}
+
 pub fn bytes(rt: &impl Print, s: &[u8]) -> io::Result<()> {
-    for b in s {
-        byte(rt, *b)?;
+    for byte in s {
+        print!(rt; " {byte:02x}")?;
     }
     Ok(())
 }
 
-// Bytes 6 to 9 of an image.
-pub fn seen(rt: &impl Print, image: &[u8]) -> io::Result<()> {
-    if 10 <= image.len() {
-        bytes(rt, &image[6..10])?;
-    }
-    end(rt)
-}
-
-// A cut's number, with its kept count where it has one.
-pub fn cut_answer(rt: &impl Print, answer: Result<usize, Refusal>) -> io::Result<()> {
-    match answer {
-        Ok(kept) => {
-            number(rt, 0)?;
-            number(rt, kept as u64)
-        }
-        Err(why) => number(rt, refusal_number(why)),
-    }
-}
-
-// A verdict's number, with n or m where it has one.
-pub fn verdict(rt: &impl Print, answer: Result<Verdict, Refusal>) -> io::Result<()> {
-    match answer {
-        Ok(Verdict::Admitted(n)) => {
-            number(rt, 0)?;
-            number(rt, n as u64)
-        }
-        Ok(Verdict::Denied(m)) => {
-            number(rt, 8)?;
-            number(rt, m as u64)
-        }
-        Err(why) => number(rt, refusal_number(why)),
-    }
+// Bytes 6 to 9 of an image, which end the line.
+pub fn seen(rt: &impl Print, image: &[u8; 16]) -> io::Result<()> {
+    bytes(rt, &image[6..10])?;
+    println!(rt)
 }

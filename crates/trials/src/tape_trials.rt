@@ -1,120 +1,86 @@
 // The calls by tape.
-use crate::print::{cut_answer, end, name, number, seen};
-use desk::state::{State, fresh};
-use region::numbers::answer_number;
+use crate::print::{seen, show};
+use crate::small::{A, B, Desk, at};
+use epochs::epoch::Tape;
+use pieces::Write;
+use region::Refusal;
 use std::io;
 use tape::tape_cut::tape_cut;
 use tape::tape_flush::tape_flush;
 use tape::tape_write::tape_write;
 
-// A write of A at 6 and of B at 7 by tape, then a flush, a cut and one write more, whatever the
-// tape foretells.
-fn epoch_trial(rt: &impl Print, tape: &[u8]) -> io::Result<()> {
-    let mut image = [0u8; 16];
-    let mut log = [0u8; 1024];
-    let mut predicted = [0xEEu8; 16];
-    name(rt, "tape write")?;
-    let first = tape_write(
-        fresh(),
-        &image,
-        &mut log,
-        tape,
-        0,
-        &mut predicted,
-        6,
-        &[0x11, 0x22, 0x33, 0x44],
-    );
-    let answer = first.answer;
-    number(rt, answer_number(answer))?;
-    seen(rt, &predicted)?;
-    name(rt, "tape write")?;
-    let second = tape_write(
-        first.state,
-        &image,
-        &mut log,
-        tape,
-        0,
-        &mut predicted,
-        7,
-        &[0xAA, 0xBB],
-    );
-    let answer = second.answer;
-    number(rt, answer_number(answer))?;
-    seen(rt, &predicted)?;
-    name(rt, "tape flush")?;
-    let flushed = tape_flush(second.state, &mut image, &log, tape, 0, &mut predicted);
-    let answer = flushed.answer;
-    number(rt, answer_number(answer))?;
-    name(rt, " start")?;
-    number(rt, flushed.start as u64)?;
-    seen(rt, &image)?;
-    name(rt, "tape cut")?;
-    let cut = tape_cut(
-        flushed.state,
-        &mut image,
-        &log,
-        tape,
-        flushed.start,
-        &mut predicted,
-    );
-    let answer = cut.answer;
-    cut_answer(rt, answer)?;
-    name(rt, " start")?;
-    number(rt, cut.start as u64)?;
-    seen(rt, &image)?;
-    write_after(rt, cut.state, tape, cut.start)
+// A desk with a tape, and what the tape predicts of its image.
+#[derive(Clone, Copy)]
+struct Taped<'a> {
+    desk: Desk,
+    tape: Tape<'a>,
+    predicted: [u8; 16],
 }
 
-// The tape has no epoch more.
-fn write_after(rt: &impl Print, state: State, tape: &[u8], start: usize) -> io::Result<()> {
-    let image = [0u8; 16];
-    let mut log = [0u8; 1024];
-    let mut predicted = [0u8; 16];
-    name(rt, "tape write")?;
-    let last = tape_write(
-        state,
-        &image,
-        &mut log,
-        tape,
-        start,
-        &mut predicted,
-        0,
-        &[1],
-    );
-    let answer = last.answer;
-    number(rt, answer_number(answer))?;
-    end(rt)
+impl<'a> Taped<'a> {
+    fn new(bytes: &'a [u8], start: usize) -> Taped<'a> {
+        Taped {
+            desk: Desk::opened(),
+            tape: Tape { bytes, start },
+            predicted: [0xEE; 16],
+        }
+    }
+
+    fn write(&mut self, write: Write) -> Result<(), Refusal> {
+        let Desk { state, image, log } = &mut self.desk;
+        tape_write(state, image, log, self.tape, &mut self.predicted, write)
+    }
+
+    fn flush(&mut self) -> Result<(), Refusal> {
+        let Desk { state, image, log } = &mut self.desk;
+        tape_flush(state, image, log, &mut self.tape, &mut self.predicted)
+    }
+
+    fn cut(&mut self) -> Result<usize, Refusal> {
+        let Desk { state, image, log } = &mut self.desk;
+        tape_cut(state, image, log, &mut self.tape, &mut self.predicted)
+    }
+
+    // Where the tape stands after a call, and the image.
+    fn left(&self, rt: &impl Print) -> io::Result<()> {
+        let start = self.tape.start;
+        print!(rt; " start {start}")?;
+        seen(rt, &self.desk.image)
+    }
+}
+
+// A and B by tape, then a flush, a cut and one write more, whatever the tape foretells. The last finds
+// no epoch more.
+fn epoch_trial(rt: &impl Print, tape: &[u8]) -> io::Result<()> {
+    let mut taped = Taped::new(tape, 0);
+    for write in [A, B] {
+        print!(rt; "tape write")?;
+        show(rt, taped.write(write))?;
+        seen(rt, &taped.predicted)?;
+    }
+    print!(rt; "tape flush")?;
+    show(rt, taped.flush())?;
+    taped.left(rt)?;
+    print!(rt; "tape cut")?;
+    show(rt, taped.cut())?;
+    taped.left(rt)?;
+    print!(rt; "tape write")?;
+    show(rt, taped.write(at(0, &[1])))?;
+    println!(rt)
 }
 
 // A tape cut under 80 is not what was foretold.
 fn cut_under_flush_trial(rt: &impl Print) -> io::Result<()> {
-    let mut image = [0u8; 16];
-    let log = [0u8; 1024];
-    let mut predicted = [0xEEu8; 16];
-    name(rt, "cut under 80")?;
-    let cut = tape_cut(
-        fresh(),
-        &mut image,
-        &log,
-        &[0x80, 0x80, 0x40],
-        0,
-        &mut predicted,
-    );
-    let answer = cut.answer;
-    cut_answer(rt, answer)?;
-    end(rt)
+    print!(rt; "cut under 80")?;
+    show(rt, Taped::new(&[0x80, 0x80, 0x40], 0).cut())?;
+    println!(rt)
 }
 
 // A start at the tape's end, past it, and at the last number there is.
 fn start_trial(rt: &impl Print, start: usize) -> io::Result<()> {
-    let mut image = [0u8; 16];
-    let log = [0u8; 1024];
-    let mut predicted = [0u8; 16];
-    name(rt, "start")?;
-    let flushed = tape_flush(fresh(), &mut image, &log, &[0x80], start, &mut predicted);
-    let answer = flushed.answer;
-    number(rt, answer_number(answer))?;
-    end(rt)
+    print!(rt; "start")?;
+    show(rt, Taped::new(&[0x80], start).flush())?;
+    println!(rt)
 }
 
 pub fn run(rt: &impl Print) -> io::Result<()> {
@@ -123,5 +89,5 @@ pub fn run(rt: &impl Print) -> io::Result<()> {
     cut_under_flush_trial(rt)?;
     start_trial(rt, 0)?;
     start_trial(rt, 1)?;
-    start_trial(rt, 0xffff_ffff_ffff_ffff)
+    start_trial(rt, usize::MAX)
 }

@@ -1,34 +1,34 @@
 // The viewer and the number of the same question, on two images of which one is too long.
-use crate::print::{bytes, end, name, number};
-use region::numbers::answer_number;
+use crate::print::{bytes, show};
 use region::viewer::{Which, viewer, viewer_number};
 use std::io;
 
-fn asked<'a>(
+fn asked(
     rt: &impl Print,
-    first: &'a [u8],
-    second: &'a [u8],
+    first: &[u8],
+    second: &[u8],
     which: Which,
-    addr: usize,
-    len: usize,
+    parts: &[(usize, usize)],
 ) -> io::Result<()> {
-    number(
-        rt,
-        answer_number(viewer_number(first, second, which, addr, len)),
-    )?;
-    let part = viewer(first, second, which, addr, len);
-    bytes(rt, part)
+    for &(addr, len) in parts {
+        show(rt, viewer_number(first, second, which, addr, len))?;
+        bytes(rt, viewer(first, second, which, addr, len))?;
+    }
+    Ok(())
 }
 
 pub fn run(rt: &impl Print) -> io::Result<()> {
     let short = [0x11, 0x22, 0x33];
-    let long = [0xEEu8; 4097];
-    name(rt, "viewer")?;
-    asked(rt, &short, &long, Which::First, 1, 2)?;
-    asked(rt, &short, &long, Which::First, 3, 0)?;
-    asked(rt, &short, &long, Which::First, 2, 2)?;
-    asked(rt, &short, &long, Which::First, 0xffff_ffff_ffff_ffff, 2)?;
-    asked(rt, &short, &long, Which::Second, 0, 1)?;
-    asked(rt, &long, &short, Which::Second, 0, 1)?;
-    end(rt)
+    let long = [0xEE; 4097];
+    print!(rt; "viewer")?;
+    asked(
+        rt,
+        &short,
+        &long,
+        Which::First,
+        &[(1, 2), (3, 0), (2, 2), (usize::MAX, 2)],
+    )?;
+    asked(rt, &short, &long, Which::Second, &[(0, 1)])?;
+    asked(rt, &long, &short, Which::Second, &[(0, 1)])?;
+    println!(rt)
 }
