@@ -1,5 +1,5 @@
 -- One step of a replay: what is known of the first record, and of those after it. Assumes nothing.
-use Prim.Native.Nat.{ℕ, suc, ◌+◌, ◌-◌, ◌*◌, ◌≤◌}
+use Prim.Native.Nat.{ℕ, ◌+◌, ◌*◌, ◌≤◌}
 use native.Mathlib.Omega.{arith}
 use mathlib.Core.Path.{◌≡◌, refl, sym, ap, ap₂, ◌∙◌}
 use mathlib.Core.List.{List, [], ◌∷◌}
@@ -7,7 +7,7 @@ use lib.ListN.{length, take, drop}
 use borrow.Author.Tests.{leb-true}
 use Rattle.region.specs.Pmemspec.{update_bytes}
 use Rattle.region.proofs.Booleans.{both}
-use Rattle.pieces.specs.AsyncSpec.{Write, size_to_chunks, apply_write_selective, committed, flush_writes, flush_writes_selective}
+use Rattle.pieces.specs.AsyncSpec.{size_to_chunks, apply_write_selective, flush_writes, flush_writes_selective}
 use Rattle.pieces.specs.Rows.{row_at, rows_at, row_bytes}
 use Rattle.pieces.proofs.RowBits.{one_less}
 use Rattle.records.specs.declared.Record.{Record}

@@ -1,5 +1,5 @@
 -- As `whole_from`, with the rows that keep the writes' chunks. Assumes nothing.
-use Rattle.std.proofs.Common.{◌+◌, ◌*◌, arith, ◌∙◌}
+use Rattle.std.proofs.Common.{arith, ◌∙◌}
 use Rattle.region.specs.Limits.{const_persistence_chunk_size}
 use Rattle.walks.proofs.Walk.{step, none_selected, next_selected, row_there, rows_after}
 use Rattle.walks.proofs.selected.+selected_from.Goals as goal

@@ -1,5 +1,5 @@
 -- The outstanding records are the log. Assumes nothing.
-use Rattle.std.proofs.Common.{◌∙◌, ℕ, List, ap, ap₂, length}
+use Rattle.std.proofs.Common.{◌∙◌, ℕ, List, ap₂, length}
 use Rattle.region.specs.Limits.{const_persistence_chunk_size}
 use Rattle.pieces.specs.AsyncSpec.{size_to_chunks, flush_writes_selective}
 use Rattle.pieces.specs.Rows.{rows_at}

@@ -1,5 +1,5 @@
 -- What the later writes give over what is there once the first is laid is the answer. Assumes nothing.
-use Rattle.std.proofs.Common.{◌+◌, arith, ◌∙◌}
+use Rattle.std.proofs.Common.{arith, ◌∙◌}
 use Rattle.walks.proofs.Walk.{step, none_whole, next_whole}
 use Rattle.walks.proofs.whole.+whole_from.Goals as goal
 

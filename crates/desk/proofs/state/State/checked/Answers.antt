@@ -1,5 +1,5 @@
 -- Assumes nothing.
-use Rattle.std.proofs.Common.{◌≡◌, ◌+◌, ◌≤◌, ◌<◌, ℕ, List, [], true, false, ◌&&◌, leb, length, get_or, drop, sym, ap, refl, ◌∙◌, arith, rules}
+use Rattle.std.proofs.Common.{◌≡◌, ◌+◌, ◌<◌, ℕ, List, [], true, false, ◌&&◌, leb, length, get_or, drop, sym, ap, ◌∙◌, arith, rules}
 use native.Mathlib.Nat.{add-zero}
 use mathlib.Core.Bool.{false≢true}
 use lib.ListN.{drop_of_length-le}
