@@ -1,5 +1,5 @@
-// Answers that report a number, as they cross: document 01's number returned, and n, m or kept written
-// to `report` only where document 01 reports one.
+// Answers that report a number, as they cross to C: document 01's number returned, and n, m or kept
+// written to `report` only where document 01 reports one.
 ghost use Rattle.std.specs.Prelude.{◌≡◌};
 ghost use Rattle.region.specs.Answer.{counted_report};
 ghost use Rattle.gate.specs.Judgement.{verdict_report};

@@ -10,6 +10,7 @@ use records::record_list::{append, lookup};
 use records::{NO_RECORD, Record};
 use region::{IMAGE_LIMIT, LOG_LIMIT, Refusal, WRITES_LIMIT};
 
+// An array and a count: there is no heap, and so it crosses to C.
 #[derive(Clone, Copy)]
 pub struct State {
     pub count: usize,

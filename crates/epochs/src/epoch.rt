@@ -10,7 +10,7 @@ use pieces::rows::{row_bytes, rows_filled};
 use region::Refusal;
 use region::chunks::size_to_chunks;
 
-// A flush will end the epoch.
+// Bytes of the format, each an `End` where it is read. A flush will end the epoch.
 pub const FLUSH_HEADER: u8 = 0x80;
 
 // A cut will end the epoch.

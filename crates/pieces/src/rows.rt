@@ -1,4 +1,5 @@
-// A row of a row table, where it lies: K bits, chunk 0 in the top bit of its first byte.
+// A row of a row table, where it lies: K bits, chunk 0 in the top bit of its first byte. The table and
+// the place go together, as in the definitions: a row of its own would want a law of `drop` at each use.
 ghost use Rattle.std.specs.Prelude.{◌≡◌, ◌+◌, ◌-◌, ◌*◌, ◌/◌, ◌%◌, ◌^◌, ◌≤◌, ◌<◌, length};
 ghost use Rattle.std.specs.Int.Count.{ones};
 ghost use Rattle.pieces.specs.Rows.{row_bit, row_bytes, set_bits, row_filled, rows_filled};
@@ -30,7 +31,8 @@ fn ones_among(byte: u8, skipped: usize, n: usize) -> usize
     (u32::from(byte) & mask).count_ones() as usize
 }
 
-// How many of the n bits from bit `from` of the row at `at` are set, a byte at a time.
+// How many of the n bits from bit `from` of the row at `at` are set, a byte at a time. No iterator
+// counts the turns: each takes what is left of a byte.
 pub fn set_bits(rows: &[u8], at: usize, from: usize, n: usize) -> usize
     requires { (from + n < 2 ^ 64) × (at + row_bytes (from + n) ≤ length rows.now) }
     ensures { result ≡ set_bits (row_bit rows.now at) from n }

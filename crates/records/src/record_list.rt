@@ -12,6 +12,7 @@ pub fn lookup(records: &[Record], i: usize) -> Record
 }
 
 // Stores r at index `at`, and says whether the list has that index; where it has not, nothing changes.
+// By index: of a slice that `get_mut` was asked of, a proof keeps the length alone.
 pub fn append(records: &mut [Record], at: usize, r: Record) -> bool
     ensures { (result ≡ ltb at (length records.old)) × (records.new ≡ set records.old at r) }
 {

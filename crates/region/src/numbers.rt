@@ -12,7 +12,7 @@ impl From<Refusal> for u64 {
     }
 }
 
-// 0 where the call is done.
+// 0 where the call is done. A `Result` is std's, so this is a function and no conversion of ours.
 pub fn answer_number(answer: Result<(), Refusal>) -> u64
     ensures { result ≡ answer_number answer }
 {

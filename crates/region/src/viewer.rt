@@ -6,7 +6,7 @@ ghost use Rattle.region.specs.Viewer.{chosen, viewer_number, Viewed};
 
 use crate::{IMAGE_LIMIT, Refusal};
 
-// Which of the two lent images is asked.
+// Which of the two lent images is asked: "first or second as asked".
 #[derive(Clone, Copy)]
 pub enum Which {
     First,

@@ -15,7 +15,7 @@ impl From<RunError> for u64 {
     }
 }
 
-// 0 where the run is done.
+// 0 where the run is done; its own function, since its numbers are its own definition.
 pub fn run_answer_number(answer: Result<(), RunError>) -> u64
     ensures { result ≡ run_answer_number answer }
 {

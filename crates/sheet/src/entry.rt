@@ -9,6 +9,7 @@ use crate::clause::Clause;
 use bits::BYTE_BITS;
 use bits::reader::BitReader;
 
+// Numbers of the format. A tag becomes an entry where it is read, in `take_entry` alone.
 const TAG_BITS: usize = 2;
 
 const RANGE_TAG: usize = 0b00;

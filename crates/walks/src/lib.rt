@@ -2,7 +2,8 @@
 // Each is proved to give exactly what specs/ says (document 01, "Region, chunks, log"). Nothing is
 // assumed.
 //
-// A replay is recursive, one write falling away at each step.
+// A replay is recursive, one write falling away at each step. The two here and the engine's differ in how
+// a write is laid, and each has the shape of its own definition.
 
 #![tactic(auto)]
 
