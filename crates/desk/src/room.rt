@@ -6,26 +6,27 @@ ghost use Rattle.region.specs.Pmemspec.{update_bytes};
 ghost use Rattle.pieces.specs.Handed.{handed};
 ghost use Rattle.desk.specs.State.{log_records, together, record_of, room_number, appended};
 
-use crate::state::{State, within};
+use crate::state::State;
 use pieces::Write;
 use pieces::lay::lay;
 use records::Record;
+use region::viewer::within;
 use region::{LOG_LIMIT, Refusal, WRITES_LIMIT};
 
 impl State {
-    // Is there room for this write where `used` bytes are outstanding? Document 01's 2, 3 and 4.
-    pub fn room(&self, size: usize, used: usize, write: Write) -> Result<(), Refusal>
+    // Is there room for a write with this record where `used` bytes are outstanding? Document 01's 2, 3
+    // and 4.
+    pub fn room(&self, size: usize, used: usize, r: Record) -> Result<(), Refusal>
         requires { (used ≡ together (log_records self.now)) × (used ≤ log_limit) }
-        ensures { answer_number result ≡ room_number size self.now (record_of (handed write.entry)) }
+        ensures { answer_number result ≡ room_number size self.now r }
     {
-        let len = write.bytes.len();
-        if !within(write.addr, len, size) {
+        if !within(r.addr, r.len, size) {
             return Err(Refusal::OutOfRange);
         }
         if WRITES_LIMIT <= self.count {
             return Err(Refusal::TooManyWrites);
         }
-        if LOG_LIMIT - used < len {
+        if LOG_LIMIT - used < r.len {
             return Err(Refusal::TooManyBytes);
         }
         Ok(())

@@ -8,6 +8,7 @@ ghost use Rattle.desk.specs.State.{check_report, no_record, log_records, with_re
 
 use records::record_list::{append, lookup};
 use records::{NO_RECORD, Record};
+use region::viewer::within;
 use region::{IMAGE_LIMIT, LOG_LIMIT, Refusal, WRITES_LIMIT};
 
 // An array and a count: there is no heap, and so it crosses to C.
@@ -15,13 +16,6 @@ use region::{IMAGE_LIMIT, LOG_LIMIT, Refusal, WRITES_LIMIT};
 pub struct State {
     pub count: usize,
     pub records: [Record; WRITES_LIMIT],
-}
-
-// addr + len is at most size, in whole numbers.
-pub fn within(addr: usize, len: usize, size: usize) -> bool
-    ensures { result ≡ leb (addr + len) size }
-{
-    len <= size && addr <= size - len
 }
 
 impl State {

@@ -11,6 +11,7 @@ use engine::count::log_points;
 use engine::search::search;
 use pieces::Write;
 use pieces::points::touched;
+use records::Record;
 use region::{POINTS_LIMIT, Refusal};
 
 // Is the sheet well-formed? That is so for any image or none.
@@ -63,7 +64,11 @@ pub(crate) fn decide(
     if !formed(sheet, image) {
         return Err(Refusal::BadSheet);
     }
-    state.room(image.len(), used, write)?;
+    let r = Record {
+        addr: write.addr,
+        len: write.bytes.len(),
+    };
+    state.room(image.len(), used, r)?;
     weigh(state, image, log, sheet, work, write)
 }
 

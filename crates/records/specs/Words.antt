@@ -1,5 +1,4 @@
--- A list of records as words, address and length of each, oldest record first: so a state crosses to another language, and so a walk over the log reads
--- its records.
+-- A list of records as words, address and length of each, oldest record first: so a state crosses to another language.
 use Rattle.std.specs.Prelude.{ℕ, List, [], ◌∷◌}
 use Rattle.records.specs.declared.Record.{Record}
 

@@ -1,6 +1,6 @@
 // The viewer: the asked part of one of two lent images, and the number of the same question.
 // Proved: the part's place, length and bytes for all inputs, and the number. Assumed: nothing.
-ghost use Rattle.std.specs.Prelude.{◌≡◌, length};
+ghost use Rattle.std.specs.Prelude.{◌≡◌, ◌+◌, leb, length};
 ghost use Rattle.region.specs.Answer.{answer_number};
 ghost use Rattle.region.specs.Viewer.{chosen, viewer_number, Viewed};
 
@@ -23,14 +23,21 @@ fn choose<'a>(first: &'a [u8], second: &'a [u8], which: Which) -> &'a [u8]
     }
 }
 
-// The answer for an image of l bytes. No sum is made, so none wraps: addr = 2^64-1 with len 2 is 2.
+// addr + len is at most size, in whole numbers. No sum is made, so none wraps.
+pub fn within(addr: usize, len: usize, size: usize) -> bool
+    ensures { result ≡ leb (addr + len) size }
+{
+    len <= size && addr <= size - len
+}
+
+// The answer for an image of l bytes: addr = 2^64-1 with len 2 is 2.
 fn view_answer(l: usize, addr: usize, len: usize) -> Result<(), Refusal>
     ensures { answer_number result ≡ viewer_number l addr len }
 {
     if IMAGE_LIMIT < l {
         return Err(Refusal::BadState);
     }
-    if l < addr || l - addr < len {
+    if !within(addr, len, l) {
         return Err(Refusal::OutOfRange);
     }
     Ok(())

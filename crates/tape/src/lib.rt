@@ -6,7 +6,7 @@
 
 #![tactic(auto)]
 
-pub mod ending;
+mod ending;
 pub mod tape_cut;
 pub mod tape_flush;
 pub mod tape_write;

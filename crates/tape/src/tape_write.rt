@@ -3,7 +3,7 @@ ghost use Rattle.std.specs.Prelude.{◌≡◌, ◌≤◌};
 ghost use Rattle.region.specs.Answer.{answer_number};
 ghost use Rattle.region.specs.Limits.{image_limit, log_limit, const_persistence_chunk_size};
 ghost use Rattle.pieces.specs.Handed.{handed};
-ghost use Rattle.desk.specs.State.{log_records, together, record_of};
+ghost use Rattle.desk.specs.State.{log_records, together};
 ghost use Rattle.desk.specs.Desk.{desk};
 ghost use Rattle.tape.specs.Memory.{by_tape};
 ghost use Rattle.tape.specs.Write.{tape_room_number, TapeWrites};
@@ -12,22 +12,17 @@ use desk::state::State;
 use epochs::epoch::Tape;
 use epochs::predict::predict;
 use pieces::Write;
+use records::Record;
 use region::Refusal;
 
-// Is there room for this write, and a right row for it on the tape? Document 01's 2, 3,
+// Is there room for a write with this record, and a right row for it on the tape? Document 01's 2, 3,
 // 4, 10 and 9.
 #[tactic(auto, unfolding(crate::specs::Write::tape_room_number))]
-fn tape_room(
-    state: &State,
-    size: usize,
-    used: usize,
-    tape: Tape,
-    write: Write,
-) -> Result<(), Refusal>
+fn tape_room(state: &State, size: usize, used: usize, tape: Tape, r: Record) -> Result<(), Refusal>
     requires { (used ≡ together (log_records state.now)) × (used ≤ log_limit) × (size ≤ image_limit) }
-    ensures { answer_number result ≡ tape_room_number const_persistence_chunk_size size state.now tape.entry.bytes.now tape.entry.start (record_of (handed write.entry)) }
+    ensures { answer_number result ≡ tape_room_number const_persistence_chunk_size size state.now tape.entry.bytes.now tape.entry.start r }
 {
-    state.room(size, used, write)?;
+    state.room(size, used, r)?;
     tape.epoch(state.count + 1, size)
 }
 
@@ -50,7 +45,11 @@ pub fn tape_write(
     if predicted.len() != image.len() {
         return Err(Refusal::BadState);
     }
-    tape_room(state, image.len(), used, tape, write)?;
+    let r = Record {
+        addr: write.addr,
+        len: write.bytes.len(),
+    };
+    tape_room(state, image.len(), used, tape, r)?;
     state.push(log, used, write);
     predict(state, image, log, tape, predicted);
     Ok(())

@@ -4,8 +4,9 @@ ghost use Rattle.region.specs.Answer.{answer_number};
 ghost use Rattle.desk.specs.Desk.{desk};
 ghost use Rattle.writelog.specs.Read.{asked_number, read_number, Fills, HandsBack};
 
-use desk::state::{State, within};
+use desk::state::State;
 use region::Refusal;
+use region::viewer::within;
 use walks::whole::replay_whole;
 
 // The answer for an image, a log buffer and a working image of these lengths.

@@ -5,6 +5,7 @@ ghost use Rattle.writelog.specs.Write.{Writes};
 
 use desk::state::State;
 use pieces::Write;
+use records::Record;
 use region::Refusal;
 
 // Records a write, judged by nobody.
@@ -13,7 +14,11 @@ pub fn write(state: &mut State, image: &[u8], log: &mut [u8], write: Write) -> R
         (desk image.now state.new log.new) }
 {
     let used = state.checked(image.len(), log.len())?;
-    state.room(image.len(), used, write)?;
+    let r = Record {
+        addr: write.addr,
+        len: write.bytes.len(),
+    };
+    state.room(image.len(), used, r)?;
     state.push(log, used, write);
     Ok(())
 }
