@@ -1,13 +1,13 @@
--- Which of the tests for one record more gives its number, and what number 0 tells. Assumes nothing.
+-- Number 0 of the room for one record more: where it is given, and what it tells. Assumes nothing.
 use Prim.Native.Nat.{ℕ, ◌+◌, ◌≤◌, ◌<◌}
 use mathlib.Core.Path.{◌≡◌, ◌∙◌}
-use mathlib.Core.Bool.{true, false}
+use mathlib.Core.Bool.{true}
 use lib.Dec.{leb, ltb}
-use borrow.Author.Tests.{lt-ltb, le-ltb, le-leb, lt-leb, leb-true, ltb-true}
+use borrow.Author.Tests.{lt-ltb, le-leb, leb-true, ltb-true}
 use Rattle.region.specs.Limits.{writes_limit, log_limit}
 use Rattle.region.specs.Answer.{unless}
 use Rattle.region.proofs.AnswerLaws.{passed}
-use Rattle.region.proofs.Booleans.{cond_when, cond_unless}
+use Rattle.region.proofs.Booleans.{cond_when}
 use Rattle.desk.specs.State.{log_records, together, room_number}
 use Rattle.records.specs.declared.Record.{Record}
 use Rattle.desk.specs.declared.state.State.{State}
@@ -26,22 +26,11 @@ module _ (L : ℕ) (st : State) (r : Record) where
   abbrev full : ℕ
   full = unless (ltb st.count writes_limit) 3 many
 
-  pub room_outside : leb end L ≡ false → room_number L st r ≡ 2
-  room_outside e = cond_unless (leb end L) full 2 e
-
-  module _ (inside : leb end L ≡ true) where
-    pub room_full : writes_limit ≤ st.count → room_number L st r ≡ 3
-    room_full h = cond_when (leb end L) full 2 inside ∙ cond_unless (ltb st.count writes_limit) many 3 (le-ltb st.count writes_limit h)
-
-    module _ (few : st.count < writes_limit) where
-      first_two : room_number L st r ≡ many
-      first_two = cond_when (leb end L) full 2 inside ∙ cond_when (ltb st.count writes_limit) many 3 (lt-ltb st.count writes_limit few)
-
-      pub room_lacking : log_limit < bytes → room_number L st r ≡ 4
-      room_lacking h = first_two ∙ cond_unless (leb bytes log_limit) 0 4 (lt-leb bytes log_limit h)
-
-      pub room_there : bytes ≤ log_limit → room_number L st r ≡ 0
-      room_there h = first_two ∙ cond_when (leb bytes log_limit) 0 4 (le-leb bytes log_limit h)
+  pub room_there : leb end L ≡ true → st.count < writes_limit → bytes ≤ log_limit → room_number L st r ≡ 0
+  room_there inside few fits =
+      cond_when (leb end L) full 2 inside
+      ∙ cond_when (ltb st.count writes_limit) many 3 (lt-ltb st.count writes_limit few)
+      ∙ cond_when (leb bytes log_limit) 0 4 (le-leb bytes log_limit fits)
 
   pub room_done : room_number L st r ≡ 0 → Room L st r
   room_done e =
