@@ -28,7 +28,8 @@ impl<'a> BitReader<'a> {
         self.bytes.len() * BYTE_BITS
     }
 
-    // How many bits are left.
+    // How many bits are left. This and `take` are inlined for time: a verdict judges a sheet up to 65,536
+    // times.
     #[inline]
     pub fn left(&self) -> usize
         ensures { result ≡ bit_count self.now.bytes.now - self.now.at }
