@@ -143,6 +143,9 @@ fn variants(item: &[&str]) -> Vec<String> {
     found
 }
 
+/// What Rust names without an import.
+const PRELUDE: [&str; 2] = ["Option", "Result"];
+
 /// The declared things that one names: types and constants start with a capital.
 pub fn uses(tree: &Tree, entry: &Entry) -> Result<Vec<usize>, String> {
     let file = &tree.files[entry.file];
@@ -150,7 +153,7 @@ pub fn uses(tree: &Tree, entry: &Entry) -> Result<Vec<usize>, String> {
     for token in &entry.tokens {
         let word = &token.text;
         let own = entry.names.contains(word) || entry.constructors.contains(word);
-        if own || !word.starts_with(char::is_uppercase) {
+        if own || PRELUDE.contains(&word.as_str()) || !word.starts_with(char::is_uppercase) {
             continue;
         }
         let import = file.imports.iter().find(|import| import.local == *word);
