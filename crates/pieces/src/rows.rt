@@ -51,6 +51,7 @@ pub fn set_bits(rows: &[u8], at: usize, from: usize, n: usize) -> usize
 }
 
 // No filling bit of the row at `at` is set.
+#[tactic(auto, unfolding(crate::specs::Rows::row_filled))]
 fn row_filled(rows: &[u8], at: usize, chunks: usize) -> bool
     requires { (row_bytes chunks * 8 < 2 ^ 64) × (at + row_bytes chunks ≤ length rows.now) }
     ensures { result ≡ row_filled chunks rows.now at }
