@@ -1,6 +1,6 @@
 -- Which of a tape call's tests gives its number, and what number 0 tells. Assumes nothing.
 use Prim.Native.Nat.{ℕ, ◌+◌}
-use mathlib.Core.Path.{◌≡◌, refl, ap, ◌∙◌}
+use mathlib.Core.Path.{◌≡◌, refl, sym, ap, ◌∙◌}
 use mathlib.Core.Bool.{Bool, true, false, beq, false≢true}
 use mathlib.Core.List.{List}
 use lib.Dec.{eqb}
@@ -8,7 +8,7 @@ use lib.ListN.{length}
 use borrow.Author.Tests.{eq-eqb, ne_eqb, eqb-true}
 use Rattle.std.specs.Prelude.{Result, Ok}
 use Rattle.region.specs.Limits.{writes_limit}
-use Rattle.region.specs.Answer.{unless, refusal_number}
+use Rattle.region.specs.Answer.{Answer, answer_number, done, unless, refusal_number}
 use Rattle.region.specs.declared.Refusal.{Refusal}
 use Rattle.region.proofs.AnswerLaws.{passed, go_on, stop, both_none}
 use Rattle.region.proofs.Booleans.{cond_when, cond_unless, and_when, and_unless, both}
@@ -68,10 +68,13 @@ module _ (t : TapeDesk) (tape : List ℕ) (w : Write) where
   unfolding tape_write_number
   tape_write_unsound e = cond_unless good _ 1 e
 
-  pub tape_write_by_room : sound t.memory ≡ true → length t.predicted ≡ length t.memory.image
-      → tape_write_number t tape w ≡ tape_room_number (chunk_size t.memory) (length t.memory.image) t.memory.state tape t.start (record_of w)
+  -- past the test of 1 the number is the room's
+  pub tape_write_by_room : sound t.memory ≡ true → length t.predicted ≡ length t.memory.image → {room answer : Answer}
+      → answer_number room ≡ tape_room_number (chunk_size t.memory) (length t.memory.image) t.memory.state tape t.start (record_of w)
+      → room ≡ answer → tape_write_number t tape w ≡ answer_number answer
   unfolding tape_write_number
-  tape_write_by_room e same = cond_when good _ 1 (tape_sound_there _ t.memory.state _ _ e same)
+  tape_write_by_room e same told is =
+      cond_when good _ 1 (tape_sound_there _ t.memory.state _ _ e same) ∙ sym told ∙ ap answer_number is
 
   -- a write that is done by tape is done plainly
   pub plainly_done : tape_write_number t tape w ≡ 0 → write_number t.memory w ≡ 0
@@ -123,10 +126,11 @@ module _ (flushing : Bool) (C L : ℕ) (st : State) (log_length : ℕ) (tape : L
       ending_foretold f = ending_by_header ∙ cond_when (as_foretold flushing tape start) 0 11 f
 
   -- a right epoch's header foretells an end
-  pub ending_by_end : sound_for L st log_length ≡ true → predicted_length ≡ L → epoch_number (size_to_chunks C L) st.count tape start ≡ 0
-      → (r : Result End Refusal) → ForetellsEnd tape start r
+  pub ending_by_end : sound_for L st log_length ≡ true → predicted_length ≡ L → {epoch : Answer}
+      → answer_number epoch ≡ epoch_number (size_to_chunks C L) st.count tape start → epoch ≡ done → (r : Result End Refusal) → ForetellsEnd tape start r
       → (end : End) × (r ≡ Ok end) × (ending_number flushing C L st log_length tape start predicted_length ≡ unless (beq (told end) flushing) 11 0)
-  ending_by_end good same right r foretold =
+  ending_by_end good same counted is r foretold =
+      let right = sym counted ∙ ap answer_number is in
       let found = end_foretold (size_to_chunks C L) st.count tape start right r foretold in
       let number = ending_by_header (tape_sound_there L st log_length predicted_length good same) right in
       (found.0, found.1, number ∙ ap (λ (b : Bool). unless (beq b flushing) 11 0) found.2)

@@ -33,13 +33,11 @@ returns-in_err-epoch-clause-number c =
 pub returns-then-ne-clause-number : goal.returns-then-ne-clause-number
 returns-then-ne-clause-number c =
     let told = told_bytes _ c.args.state.now _ c.checked.ensures.0 c.in_ok-checked.was in
-    let none = sym c.epoch.ensures ∙ ap answer_number c.in_ok-epoch.was in
-    let number = ending_by_end (flushing c.args.end) _ _ c.args.state.now _ _ _ _ told.good c.if-predicted-size.false none c.foretold.result c.foretold.ensures in
+    let number = ending_by_end (flushing c.args.end) _ _ c.args.state.now _ _ _ _ told.good c.if-predicted-size.false c.epoch.ensures c.in_ok-epoch.was _ c.foretold.ensures in
     search rules
 
 pub returns-clause-number : goal.returns-clause-number
 returns-clause-number c =
     let told = told_bytes _ c.args.state.now _ c.checked.ensures.0 c.in_ok-checked.was in
-    let none = sym c.epoch.ensures ∙ ap answer_number c.in_ok-epoch.was in
-    let number = ending_by_end (flushing c.args.end) _ _ c.args.state.now _ _ _ _ told.good c.if-predicted-size.false none c.foretold.result c.foretold.ensures in
+    let number = ending_by_end (flushing c.args.end) _ _ c.args.state.now _ _ _ _ told.good c.if-predicted-size.false c.epoch.ensures c.in_ok-epoch.was _ c.foretold.ensures in
     search rules

@@ -1,9 +1,8 @@
 -- Where there is room, and a right row for it, the write is recorded as the plain write does it and the image is predicted with it in the log.
 -- Assumes nothing.
-use Rattle.std.proofs.Common.{◌≡◌, ℕ, List, length, sym, ap, ◌∙◌, arith}
+use Rattle.std.proofs.Common.{◌≡◌, ℕ, List, length, ap, ◌∙◌, arith}
 use mathlib.Core.Path.{ap₂, subst⁻¹}
 use Rattle.std.proofs.lemmas.Result.{err_from_is_err_and}
-use Rattle.region.specs.Answer.{answer_number}
 use Rattle.region.specs.Pmemspec.{update_bytes}
 use Rattle.region.specs.declared.Refusal.TheVariants.{BadState}
 use Rattle.pieces.specs.AsyncSpec.{Write}
@@ -44,19 +43,19 @@ tape_room-requires c =
 pub returns-in_err-tape_room : goal.returns-in_err-tape_room
 returns-in_err-tape_room c =
     let a = c.args in
-    let t = by_tape (desk a.image.now a.state.now a.log.now) a.tape.start a.predicted.now in
     let told = told_bytes _ a.state.now _ c.checked.ensures.0 c.in_ok-used.was in
-    let number = tape_write_by_room t a.tape.bytes.now (handed a.write) told.good c.if-predicted-image.false ∙ sym c.tape_room.ensures in
     let passed = err_from_is_err_and c.from_residual-in_err-tape_room.result c.from_residual-in_err-tape_room.ensures.1 in
-    rw (passed.1, passed.2) (tape_writes_refused c.in_err-tape_room.field-0.0 (number ∙ ap answer_number c.in_err-tape_room.was))
+    rw (passed.1, passed.2)
+    (tape_writes_refused c.in_err-tape_room.field-0.0
+    (tape_write_by_room _ a.tape.bytes.now (handed a.write) told.good c.if-predicted-image.false c.tape_room.ensures c.in_err-tape_room.was))
 
 pub push-requires : goal.push-requires
 push-requires c =
     let a = c.args in
     let t = by_tape (desk a.image.now a.state.now a.log.now) a.tape.start a.predicted.now in
     let told = told_bytes _ a.state.now _ c.checked.ensures.0 c.in_ok-used.was in
-    let number = tape_write_by_room t a.tape.bytes.now (handed a.write) told.good c.if-predicted-image.false ∙ sym c.tape_room.ensures in
-    let room = (tape_write_done (number ∙ ap answer_number c.in_ok-tape_room.was)).room in
+    let number = tape_write_by_room t a.tape.bytes.now (handed a.write) told.good c.if-predicted-image.false c.tape_room.ensures c.in_ok-tape_room.was in
+    let room = (tape_write_done number).room in
     (room.few, omega (arith, told.counted, told.facts.buffer, room.fits))
 
 pub predict-requires : goal.predict-requires
@@ -65,19 +64,15 @@ predict-requires c =
     let d = desk a.image.now a.state.now a.log.now in
     let t = by_tape d a.tape.start a.predicted.now in
     let told = told_bytes _ a.state.now _ c.checked.ensures.0 c.in_ok-used.was in
-    let number = tape_write_by_room t a.tape.bytes.now (handed a.write) told.good c.if-predicted-image.false ∙ sym c.tape_room.ensures in
-    let with = pushed d (handed a.write) c.push.ensures told.counted in
-    subst⁻¹ (λ (d : Desk). Predictable d a.tape.bytes.now a.tape.start (length a.predicted.now)) with
-    (predictable_with c.checked.ensures.1 (tape_write_done (number ∙ ap answer_number c.in_ok-tape_room.was)))
+    let number = tape_write_by_room t a.tape.bytes.now (handed a.write) told.good c.if-predicted-image.false c.tape_room.ensures c.in_ok-tape_room.was in
+    subst⁻¹ (λ (d : Desk). Predictable d a.tape.bytes.now a.tape.start (length a.predicted.now)) (pushed d (handed a.write) c.push.ensures told.counted)
+    (predictable_with c.checked.ensures.1 (tape_write_done number))
 
 pub returns : goal.returns
 returns c =
     let a = c.args in
-    let d = desk a.image.now a.state.now a.log.now in
-    let t = by_tape d a.tape.start a.predicted.now in
     let told = told_bytes _ a.state.now _ c.checked.ensures.0 c.in_ok-used.was in
-    let number = tape_write_by_room t a.tape.bytes.now (handed a.write) told.good c.if-predicted-image.false ∙ sym c.tape_room.ensures in
-    let with = pushed d (handed a.write) c.push.ensures told.counted in
-    tape_writes_done (number ∙ ap answer_number c.in_ok-tape_room.was)
+    let with = pushed (desk a.image.now a.state.now a.log.now) (handed a.write) c.push.ensures told.counted in
+    tape_writes_done (tape_write_by_room _ a.tape.bytes.now (handed a.write) told.good c.if-predicted-image.false c.tape_room.ensures c.in_ok-tape_room.was)
     (ap₂ (λ (d : Desk) (p : List ℕ). by_tape d a.tape.start p) with
     (c.predict.ensures ∙ ap (λ (d : Desk). predicted_now d a.tape.bytes.now a.tape.start) with))
