@@ -35,6 +35,7 @@ pub fn loaded(words: &[u64]) -> State
 }
 
 // The record that stands at index i among them.
+#[tactic(auto, using(crate::proofs::WordLaws::said_at))]
 fn record_at(words: &[u64], i: usize) -> Record
     requires { (length words.now ≡ state_words) × (i < writes_limit) }
     ensures { result ≡ get_or (records_of (drop 1 words.now)) i no_record }
