@@ -10,7 +10,7 @@ use pieces::Write;
 use writelog::flush::flush;
 
 // Writes `first` and then `second` at `addr` through the gate, and flushes. Stops at the first
-// refusal; none comes.
+// refusal; none comes. Each write takes its verdict apart by itself, as the example asks.
 pub fn pair(
     state: &mut State,
     image: &mut [u8],

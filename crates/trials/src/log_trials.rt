@@ -11,7 +11,7 @@ use writelog::flush::flush;
 use writelog::read::{read, read_number};
 use writelog::write::write;
 
-// A desk with both writes outstanding.
+// A desk with both writes outstanding. That both are done shows in what is read or cut of it.
 fn two_writes() -> Desk {
     let mut desk = Desk::opened();
     for w in [A, B] {
@@ -108,7 +108,7 @@ fn bytes_trial(rt: &impl Print) -> io::Result<()> {
     )
 }
 
-// An empty write uses a record and a row.
+// An empty write uses a record and a row, which shows in the cut's answer.
 fn empty_write_trial(rt: &impl Print, rows: &[u8]) -> io::Result<()> {
     let mut desk = Desk::opened();
     let _ = desk.write(at(5, &[]));

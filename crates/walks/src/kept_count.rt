@@ -10,6 +10,7 @@ use region::CHUNK_SIZE;
 use region::chunks::size_to_chunks;
 
 // The pieces that the rows from `row` on keep: the set bits among each write's touched chunks, summed.
+// The place is counted beside the loop: rows of an empty image have no bytes, and `chunks` has no such step.
 pub fn kept(state: &State, size: usize, rows: &[u8], row: usize) -> usize
     requires { KeptFrom const_persistence_chunk_size size state.now (length rows.now) row }
     ensures { result ≡ kept_by_table const_persistence_chunk_size size state.now rows.now row }
