@@ -15,7 +15,8 @@ use region::{LOG_LIMIT, Refusal, WRITES_LIMIT};
 
 impl State {
     // Is there room for a write with this record where `used` bytes are outstanding? Document 01's 2, 3
-    // and 4.
+    // and 4. `used` goes beside the state that it was counted of: the state is changed next, so nothing
+    // holds both.
     pub fn room(&self, size: usize, used: usize, r: Record) -> Result<(), Refusal>
         requires { (used ≡ together (log_records self.now)) × (used ≤ log_limit) }
         ensures { answer_number result ≡ room_number size self.now r }

@@ -15,7 +15,7 @@ use pieces::points::touched;
 use records::Record;
 
 // The writes of these records, whose bytes begin the log, laid over `work` by the chunks that m keeps,
-// oldest write first. A write's points are m's lowest bits.
+// oldest write first. A write's points are m's lowest bits. `Remaining` as in `whole_from` of `walks`.
 fn chosen_from(records: &[Record], log: &[u8], work: &mut [u8], m: usize)
     requires remaining { Remaining (length work.old) records.now (length log.now) }
     requires short { length work.old ≤ image_limit }

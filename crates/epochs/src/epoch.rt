@@ -71,7 +71,7 @@ impl Tape<'_> {
     }
 
     // Are the first n rows of the epoch there, and filled? Document 01's 10 and 9: every row is there
-    // before any filling is looked at.
+    // before any filling is looked at. The limits of n and `size` are clauses, as `rows_right`'s of `writelog`.
     #[tactic(auto, using(crate::proofs::EpochLaws::no_epoch, crate::proofs::EpochLaws::badly_filled, crate::proofs::EpochLaws::epoch_good))]
     pub fn epoch(self, n: usize, size: usize) -> Result<(), Refusal>
         requires { (n ≤ writes_limit) × (size ≤ image_limit) }

@@ -52,7 +52,8 @@ fn repeat(
     Ok(())
 }
 
-// Opens the image under the example's sheet, and goes the rounds.
+// Opens the image under the example's sheet, and goes the rounds. The address and its two values stay
+// apart, as in C's call.
 pub fn run(
     image: &mut [u8],
     log: &mut [u8],

@@ -72,7 +72,8 @@ pub(crate) fn decide(
     weigh(state, image, log, sheet, work, write)
 }
 
-// What the gate would answer, and the working image that it would leave. Records nothing.
+// What the gate would answer, and the working image that it would leave. Records nothing. Sheet and
+// working image stay apart as state, image and log do (`desk`).
 pub fn judge(
     state: &State,
     image: &[u8],

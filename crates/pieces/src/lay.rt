@@ -1,4 +1,5 @@
-// One write laid over an image in place.
+// One write laid over an image in place. That the write lies inside it is a clause of each function: it
+// ties two lent things together, which no type of one of them can hold.
 ghost use Rattle.std.specs.Prelude.{◌≡◌, ◌+◌, ◌≤◌, ◌<◌, ℕ, Bool, length};
 ghost use Rattle.region.specs.Limits.{const_persistence_chunk_size, points_limit};
 ghost use Rattle.pieces.specs.AsyncSpec.{apply_write, size_to_chunks};

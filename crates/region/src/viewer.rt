@@ -23,7 +23,8 @@ fn choose<'a>(first: &'a [u8], second: &'a [u8], which: Which) -> &'a [u8]
     }
 }
 
-// addr + len is at most size, in whole numbers. No sum is made, so none wraps.
+// addr + len is at most size, in whole numbers. No sum is made, so none wraps. Address and length go
+// together here and in every read, as two numbers, since so C asks with them.
 pub fn within(addr: usize, len: usize, size: usize) -> bool
     ensures { result ≡ leb (addr + len) size }
 {

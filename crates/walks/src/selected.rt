@@ -12,7 +12,7 @@ use pieces::lay::lay_selected;
 use records::Record;
 
 // The writes of these records, whose bytes begin the log, laid over `work` by the rows from `row` on,
-// each of `width` bytes.
+// each of `width` bytes. `Remaining` as in `whole_from`.
 fn selected_from(
     records: &[Record],
     log: &[u8],

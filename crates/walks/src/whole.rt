@@ -9,7 +9,8 @@ use pieces::Write;
 use pieces::lay::lay;
 use records::Record;
 
-// The writes of these records, whose bytes begin the log, laid whole over `work`.
+// The writes of these records, whose bytes begin the log, laid whole over `work`. `Remaining` ties records,
+// log and image together, so it is a clause here and of the other replays, and no type's invariant.
 fn whole_from(records: &[Record], log: &[u8], work: &mut [u8])
     requires { Remaining (length work.old) records.now (length log.now) }
     ensures { work.new ≡ replayed_whole work.old records.now log.now }

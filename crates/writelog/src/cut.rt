@@ -13,7 +13,8 @@ use region::chunks::size_to_chunks;
 use walks::kept_count::kept;
 use walks::selected::replay_selected;
 
-// A table of the right length, with no filling bit set, for n writes and an image of `size` bytes.
+// A table of the right length, with no filling bit set, for n writes and an image of `size` bytes. The two
+// limits are clauses: a type for either number would be taken apart here at once.
 fn rows_right(rows: &[u8], n: usize, size: usize) -> bool
     requires { (n ≤ writes_limit) × (size ≤ image_limit) }
     ensures { result ≡ rows_right (size_to_chunks const_persistence_chunk_size size) n rows.now }
