@@ -8,7 +8,8 @@ use native.Mathlib.Numerals.{add-one}
 use lib.Dec.{leb}
 use lib.Pow.{pow-add}
 use borrow.Author.Tests.{lt-leb, le-leb}
-use Rattle.bits.specs.Bits.{bit_count, field, Found, malformed, got, on_got, only_if, read_field}
+use Rattle.std.specs.Prelude.{Option, Some, None}
+use Rattle.bits.specs.Bits.{bit_count, field, Found, malformed, got, on_got, only_if, read_field, taken}
 
 -- A field.
 
@@ -19,6 +20,24 @@ field_cut n s at h = rw (lt-leb (at + n) (bit_count s) h)
 pub field_there : (n : ℕ) (s : List ℕ) (at : ℕ) → at + n ≤ bit_count s → read_field n s at ≡ got (field s at n) (at + n)
 unfolding read_field
 field_there n s at h = rw (le-leb (at + n) (bit_count s) h)
+
+-- What was found, of what the code tells.
+
+pub took : (n : ℕ) (s : List ℕ) (at : ℕ) {x y : Option ℕ} (next : ℕ) → taken x next ≡ read_field n s at → x ≡ y → read_field n s at ≡ taken y next
+took n s at next told e = sym told ∙ ap (λ (o : Option ℕ). taken o next) e
+
+-- two fields, and what is read after them
+pub took_pair : {B : Type 0} (m n : ℕ) (s : List ℕ) (at : ℕ) (k : (first second next : ℕ) → Found B) (x y : Option ℕ) (behind end : ℕ)
+    → taken x behind ≡ read_field m s at → taken y end ≡ read_field n s behind
+    → on_got (read_field m s at) (λ a next. on_got (read_field n s next) (λ b last. k a b last))
+    ≡ on_got (taken x behind) (λ a next. on_got (taken y end) (λ b last. k a b last))
+took_pair m n s at k x y behind end first second =
+    ap (λ (f : Found ℕ). on_got f (λ a next. on_got (read_field n s next) (λ b last. k a b last))) (sym first) ∙ go x
+  where
+    go : (o : Option ℕ) → on_got (taken o behind) (λ a next. on_got (read_field n s next) (λ b last. k a b last))
+        ≡ on_got (taken o behind) (λ a next. on_got (taken y end) (λ b last. k a b last))
+    go None = refl
+    go (Some a) = ap (λ (f : Found ℕ). on_got f (λ b last. k a b last)) (sym second)
 
 -- A field of n bits is below 2 ^ n.
 pub field_lt : (s : List ℕ) (at n : ℕ) → field s at n < 2 ^ n

@@ -5,7 +5,8 @@ use mathlib.Core.Bool.{Bool, true, false}
 use mathlib.Core.List.{List}
 use Prim.Native.Nat.{ℕ, suc, ◌-◌, ◌<◌}
 use native.Mathlib.Omega.{arith}
-use Rattle.bits.specs.Bits.{Found, malformed, got, on_got, Reader}
+use Rattle.std.specs.Prelude.{Option, Some}
+use Rattle.bits.specs.Bits.{Found, malformed, got, on_got, Reader, taken}
 use Rattle.sheet.specs.Sheet.{Clause, Kind, all, any, Entry, one, many, Rule, Rules, group, cons, empty_holds, join, clause_holds, holds, members_hold, read_entry, read_members, read_rest, read_rule}
 use Rattle.sheet.specs.Inner.{rule_truth, group_truth}
 
@@ -19,6 +20,10 @@ pub truth_good : (image : List ℕ) (f : Found Rule) {next : ℕ} {h : Bool} →
     → (r : Rule) × (f ≡ got r next) × (holds r image image ≡ h)
 truth_good image malformed e = absurd cc
 truth_good image (got r end) e = (r, cc, cc)
+
+pub step_good : (image : List ℕ) (f : Found Rule) {x : Option Bool} (next : ℕ) {h : Bool} → taken x next ≡ rule_truth image f → x ≡ Some h
+    → (r : Rule) × (f ≡ got r next) × (holds r image image ≡ h)
+step_good image f next told e = truth_good image f (rw e at told)
 
 -- A rule, by its entry.
 

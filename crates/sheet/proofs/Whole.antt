@@ -7,6 +7,7 @@ use Rattle.std.specs.Prelude.{Option, Some, None}
 use Rattle.std.specs.Bool.{then_some}
 use Rattle.region.specs.Answer.{unless}
 use Prim.Native.Nat.{ℕ, ◌-◌, ◌<◌, ◌≤◌}
+use native.Mathlib.Omega.{arith}
 use lib.Dec.{eqb}
 use lib.ListN.{length}
 use borrow.Author.Tests.{lt-leb, le-leb, lt-ltb, le-ltb, eq-eqb, ne_eqb}
@@ -18,6 +19,10 @@ use Rattle.sheet.proofs.Judging.{truth_malformed, truth_good}
 -- The filling.
 
 module _ (s : List ℕ) (at : ℕ) where
+  pub nothing_left : bit_count s ≤ at → filling s at ≡ true
+  unfolding filling field
+  nothing_left h = let e : bit_count s - at ≡ 0 = omega arith in rw e
+
   pub much_left : byte_bits ≤ bit_count s - at → filling s at ≡ false
   unfolding filling
   much_left h = rw (le-ltb (bit_count s - at) byte_bits h)

@@ -1,8 +1,8 @@
 // The entries of a sheet, read where they lie; no image has a part in it. Proved: what is read is `read_entry` of `specs/Sheet.antt`.
 // Assumed: nothing.
-ghost use Rattle.std.specs.Prelude.{◌≡◌, option_map};
+ghost use Rattle.std.specs.Prelude.{◌≡◌, ◌≤◌, length, option_map};
 ghost use Rattle.bits.specs.Bits.{taken};
-ghost use Rattle.sheet.specs.Sheet.{empty_holds, join, read_range, read_same, read_many, read_entry};
+ghost use Rattle.sheet.specs.Sheet.{max_bytes, empty_holds, join, read_range, read_same, read_many, read_entry};
 ghost use Rattle.sheet.specs.Inner.{kind_of, entry_of};
 
 use crate::clause::Clause;
@@ -60,7 +60,9 @@ pub enum Entry {
     Many { kind: Kind, count: usize },
 }
 
+// That the sheet is short is a clause here and of what stands above, since a reader may be over any bytes.
 fn take_range(reader: &mut BitReader<'_>) -> Option<Entry>
+    requires { length reader.old.bytes.now ≤ max_bytes }
     ensures entry { taken (option_map entry_of result) reader.new.at ≡ read_range reader.old.bytes.now reader.old.at }
     ensures bytes { reader.new.bytes ≡ reader.old.bytes }
 {
@@ -71,6 +73,7 @@ fn take_range(reader: &mut BitReader<'_>) -> Option<Entry>
 }
 
 fn take_same(reader: &mut BitReader<'_>) -> Option<Entry>
+    requires { length reader.old.bytes.now ≤ max_bytes }
     ensures entry { taken (option_map entry_of result) reader.new.at ≡ read_same reader.old.bytes.now reader.old.at }
     ensures bytes { reader.new.bytes ≡ reader.old.bytes }
 {
@@ -80,6 +83,7 @@ fn take_same(reader: &mut BitReader<'_>) -> Option<Entry>
 }
 
 fn take_many(reader: &mut BitReader<'_>, kind: Kind) -> Option<Entry>
+    requires { length reader.old.bytes.now ≤ max_bytes }
     ensures entry { taken (option_map entry_of result) reader.new.at ≡ read_many (kind_of kind) reader.old.bytes.now reader.old.at }
     ensures bytes { reader.new.bytes ≡ reader.old.bytes }
 {
@@ -89,6 +93,7 @@ fn take_many(reader: &mut BitReader<'_>, kind: Kind) -> Option<Entry>
 
 // The entry where the reader stands. A tag has two bits, so one that is none of the first three is the last.
 pub fn take_entry(reader: &mut BitReader<'_>) -> Option<Entry>
+    requires { length reader.old.bytes.now ≤ max_bytes }
     ensures entry { taken (option_map entry_of result) reader.new.at ≡ read_entry reader.old.bytes.now reader.old.at }
     ensures bytes { reader.new.bytes ≡ reader.old.bytes }
 {

@@ -7,9 +7,9 @@ mod clause;
 mod entry;
 mod rules;
 
-ghost use Rattle.std.specs.Prelude.{◌≡◌};
+ghost use Rattle.std.specs.Prelude.{◌≡◌, ◌≤◌, length};
 ghost use Rattle.region.specs.Answer.{answer_number};
-ghost use Rattle.sheet.specs.Sheet.{filling, sheet_number};
+ghost use Rattle.sheet.specs.Sheet.{max_bytes, filling, sheet_number};
 ghost use Rattle.sheet.specs.Inner.{judged};
 
 use bits::reader::BitReader;
@@ -28,6 +28,7 @@ const EDITION: usize = 1;
 // Fewer than 8 bits are left, and each is 0.
 #[tactic(auto, unfolding(crate::specs::Sheet::filling))]
 fn filled(reader: &BitReader<'_>) -> bool
+    requires { length reader.now.bytes.now ≤ max_bytes }
     ensures { result ≡ filling reader.now.bytes.now reader.now.at }
 {
     let left = reader.left();

@@ -1,8 +1,8 @@
 // The rules of a sheet, judged on the bits where they lie. Proved: each function answers what reading the rule by `specs/Sheet.antt`
 // and then asking whether it holds of the image would. A group is read to its end, whichever member decides. Assumed: nothing.
-ghost use Rattle.std.specs.Prelude.{◌≡◌};
+ghost use Rattle.std.specs.Prelude.{◌≡◌, ◌≤◌, length};
 ghost use Rattle.bits.specs.Bits.{taken};
-ghost use Rattle.sheet.specs.Sheet.{read_rule, read_members};
+ghost use Rattle.sheet.specs.Sheet.{max_bytes, read_rule, read_members};
 ghost use Rattle.sheet.specs.Inner.{kind_of, rule_truth, group_truth};
 
 use crate::entry::{Entry, Kind, take_entry};
@@ -11,6 +11,7 @@ use bits::reader::BitReader;
 // Whether the rule where the reader stands holds, if it is whole and of at most so many levels.
 #[cycle(judge_members_judge_rule)]
 pub fn judge_rule(reader: &mut BitReader<'_>, image: &[u8], levels: usize) -> Option<bool>
+    requires { length reader.old.bytes.now ≤ max_bytes }
     ensures truth { taken result reader.new.at ≡ rule_truth image.now (read_rule levels reader.old.bytes.now reader.old.at) }
     ensures bytes { reader.new.bytes ≡ reader.old.bytes }
 {
@@ -24,6 +25,7 @@ pub fn judge_rule(reader: &mut BitReader<'_>, image: &[u8], levels: usize) -> Op
 // Judges the members of a group, each of at most so many levels. A false member decides an all and a true one an any; the members after it
 // are read all the same, since one of them may be malformed.
 #[cycle(judge_members_judge_rule)]
+#[tactic(auto, using(crate::proofs::Judging::member_malformed))]
 fn judge_members(
     reader: &mut BitReader<'_>,
     image: &[u8],
@@ -31,6 +33,7 @@ fn judge_members(
     kind: Kind,
     count: usize,
 ) -> Option<bool>
+    requires { length reader.old.bytes.now ≤ max_bytes }
     ensures truth { taken result reader.new.at ≡ group_truth (kind_of kind) image.now (read_members count (read_rule levels) reader.old.bytes.now reader.old.at) }
     ensures bytes { reader.new.bytes ≡ reader.old.bytes }
 {

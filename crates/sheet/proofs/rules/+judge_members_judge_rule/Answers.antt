@@ -2,7 +2,7 @@
 use Rattle.std.proofs.Common.{◌≡◌, ◌+◌, ◌-◌, refl, suc, ◌∙◌, arith}
 use Rattle.sheet.specs.Sheet.{read_rule, read_members}
 use Rattle.sheet.specs.Inner.{kind_of}
-use Rattle.sheet.proofs.Judging.{no_levels, no_entry, one_clause, many_members, nothing_joined, none_left, member_malformed, member_judged}
+use Rattle.sheet.proofs.Judging.{no_levels, no_entry, one_clause, many_members, nothing_joined, none_left, member_judged}
 use Rattle.sheet.proofs.rules.+judge_members_judge_rule.Goals as goal
 
 pub judge_members-loop-init : goal.judge_members-loop-init
@@ -10,12 +10,6 @@ judge_members-loop-init t c =
     let a = c.args in
     let all_left : a.count - 0 ≡ a.count = omega arith in
     (rw (all_left, c.of_none-truth.ensures) (nothing_joined (kind_of a.kind) a.image.now (read_members a.count (read_rule a.levels) a.reader.now.bytes.now a.reader.now.at)), refl)
-
-pub judge_members-returns-in_err-member-clause-truth : goal.judge_members-returns-in_err-member-clause-truth
-judge_members-returns-in_err-member-clause-truth t c =
-    let a = c.args in
-    rw c.from_residual.ensures (member_malformed (kind_of a.kind) a.image.now (read_rule a.levels) c.loop.reader.bytes.now c.loop.truth c.loop.reader.at
-    (omega (arith, c.loop-test.true)) c.loop.invariant.0 c.in_err-member.ensures.truth)
 
 pub judge_members-loop-preserved : goal.judge_members-loop-preserved
 judge_members-loop-preserved t c =
@@ -52,6 +46,5 @@ judge_rule-returns-in-One-clause-truth t c =
 pub judge_rule-returns-in-Many-clause-truth : goal.judge_rule-returns-in-Many-clause-truth
 judge_rule-returns-in-Many-clause-truth t c =
     let a = c.args in
-    let deeper : suc c.in_ok-deeper.deeper ≡ a.levels = omega (arith, c.in_ok-deeper.ensures) in
     let entry = rw c.in-Many.is at c.in_ok-clause.ensures.entry in
-    rw (c.judge_members.ensures.truth, c.take_entry.ensures.bytes) (many_members a.image.now a.reader.now.bytes.now a.reader.now.at deeper entry)
+    rw (c.judge_members.ensures.truth, c.take_entry.ensures.bytes) (many_members a.image.now a.reader.now.bytes.now a.reader.now.at (omega (arith, c.in_ok-deeper.ensures)) entry)
