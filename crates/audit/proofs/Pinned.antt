@@ -1,14 +1,16 @@
 -- No call of the library leaves a choice: of the answer with what it reports, nor of any memory that it is lent. The viewer's part is pinned in `region`
 -- (`viewed_once`). Assumes nothing.
 use Prim.Native.Nat.{ℕ}
-use mathlib.Core.Path.{◌≡◌, sym, ap}
+use native.Mathlib.Omega.{arith}
+use mathlib.Core.Path.{◌≡◌, refl, sym, ap, ◌∙◌}
+use mathlib.Core.Bool.{false≢true}
 use mathlib.Core.List.{List}
 use denote.Ref.{MutBor}
-use Rattle.std.specs.Prelude.{Ok, Err}
+use Rattle.std.specs.Prelude.{Result, Ok, Err}
+use Rattle.region.specs.declared.Refusal.{Refusal}
 use Rattle.region.specs.Answer.{Report, answer_number, Answer, Counted, counted_report}
 use Rattle.region.proofs.AnswerLaws.{answers_by_number, refusals_by_number}
 use Rattle.pieces.specs.AsyncSpec.{Write}
-use Rattle.sheet.specs.Sheet.{sheet_number}
 use Rattle.desk.specs.Desk.{Desk}
 use Rattle.writelog.specs.Write.{Writes}
 use Rattle.writelog.specs.Read.{Fills, HandsBack}
@@ -18,6 +20,9 @@ use Rattle.gate.specs.Opening.{Opens}
 use Rattle.gate.specs.Judgement.{verdict_report, Judges, Gates, Judged}
 use Rattle.gate.proofs.JudgementLaws.{same_number, same_values, nothing_reported, one_value}
 use Rattle.gate.proofs.Meaning.{verdicts_by_report}
+use Rattle.epochs.specs.End.{flushing, HeaderTells, ForetellsEnd}
+use Rattle.epochs.specs.declared.epoch.End.{End}
+use Rattle.epochs.specs.declared.epoch.End.TheVariants.{Flush, Cut}
 use Rattle.tape.specs.Memory.{TapeDesk}
 use Rattle.tape.specs.Write.{TapeWrites}
 use Rattle.tape.specs.Flush.{TapeFlushes}
@@ -46,6 +51,30 @@ sheet_pinned = number_pinned
 -- and what a state is checked to be, by its report
 pub check_pinned : {r : Report} (a b : Counted) → counted_report a ≡ r → counted_report b ≡ r → a ≡ b
 check_pinned a b p q = counted_by_report a b (same p q)
+
+-- and which end a header foretells, which is told by cases
+pub header_pinned : (byte : ℕ) (a b : Result End Refusal) → HeaderTells byte a → HeaderTells byte b → a ≡ b
+header_pinned byte (Ok Flush) (Ok Flush) p q = refl
+header_pinned byte (Ok Flush) (Ok Cut) p q = absurd (omega (arith, p, q))
+header_pinned byte (Ok Cut) (Ok Flush) p q = absurd (omega (arith, p, q))
+header_pinned byte (Ok Cut) (Ok Cut) p q = refl
+header_pinned byte (Ok Flush) (Err why) p q = absurd (q.1 p)
+header_pinned byte (Ok Cut) (Err why) p q = absurd (q.2 p)
+header_pinned byte (Err why) (Ok Flush) p q = absurd (p.1 q)
+header_pinned byte (Err why) (Ok Cut) p q = absurd (p.2 q)
+header_pinned byte (Err a) (Err b) p q = ap Err (p.0 ∙ sym q.0)
+
+ends_by_flushing : (a b : End) → flushing a ≡ flushing b → a ≡ b
+ends_by_flushing Flush Flush e = refl
+ends_by_flushing Flush Cut e = absurd (false≢true (sym e))
+ends_by_flushing Cut Flush e = absurd (false≢true e)
+ends_by_flushing Cut Cut e = refl
+
+pub foretold_pinned : (tape : List ℕ) (start : ℕ) (a b : Result End Refusal) → ForetellsEnd tape start a → ForetellsEnd tape start b → a ≡ b
+foretold_pinned tape start (Ok a) (Ok b) p q = ap Ok (ends_by_flushing a b (sym p.1 ∙ q.1))
+foretold_pinned tape start (Ok a) (Err why) p q = absurd (false≢true (sym q.1 ∙ p.0))
+foretold_pinned tape start (Err why) (Ok b) p q = absurd (false≢true (sym p.1 ∙ q.0))
+foretold_pinned tape start (Err a) (Err b) p q = ap Err (p.0 ∙ sym q.0)
 
 module _ (d : Desk) where
   pub write_pinned : (w : Write) → Pinned (Writes d w)

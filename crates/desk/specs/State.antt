@@ -11,6 +11,10 @@ use Rattle.desk.specs.declared.state.State.{State}
 abbrev pub log_records : State → List Record
 log_records st = take st.count st.records
 
+-- how far into a state its records begin: behind the count
+abbrev pub records_offset : ℕ
+records_offset = 8
+
 -- the data bytes of the records together
 unfoldable pub together : List Record → ℕ
 together [] = 0

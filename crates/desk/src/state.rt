@@ -4,7 +4,7 @@
 ghost use Rattle.std.specs.Prelude.{◌≡◌, ◌+◌, ◌≤◌, leb, length, get_or};
 ghost use Rattle.region.specs.Answer.{counted_report};
 ghost use Rattle.region.specs.Limits.{writes_limit};
-ghost use Rattle.desk.specs.State.{check_report, no_record, log_records, with_record, emptied, fresh};
+ghost use Rattle.desk.specs.State.{check_report, no_record, log_records, records_offset, with_record, emptied, fresh};
 
 use records::record_list::{append, lookup};
 use records::{NO_RECORD, Record};
@@ -29,11 +29,12 @@ impl State {
         }
     }
 
-    // The outstanding writes' records, oldest first. Old records past the count are nobody's business.
+    // The outstanding writes' records, oldest first, where they lie. Old records past the count are nobody's business.
     pub fn outstanding(&self) -> &[Record]
         requires { self.now.count ≤ writes_limit }
         ensures records { result.now ≡ log_records self.now }
         ensures counted { length result.now ≡ self.now.count }
+        ensures place { (result.ref_ptr.0 ≡ self.entry.ref_ptr.0) × (result.ref_ptr.1 ≡ self.entry.ref_ptr.1 + records_offset) }
     {
         &self.records[..self.count]
     }
