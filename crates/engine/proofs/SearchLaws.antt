@@ -4,24 +4,23 @@ use Prim.Native.Nat.{ℕ, suc, ◌+◌, ◌-◌, ◌*◌, ◌%◌, ◌^◌, ◌�
 use native.Mathlib.Nat.{one-mul, sub-zero}
 use native.Mathlib.Numerals.{add-one}
 use native.Mathlib.Omega.{arith}
-use mathlib.Core.Path.{◌≡◌, refl, sym, ap, ◌∙◌}
-use mathlib.Core.Bool.{Bool, true, false, false≢true}
+use mathlib.Core.Path.{◌≡◌, sym, ap, ◌∙◌}
+use mathlib.Core.Bool.{Bool, true, false}
 use mathlib.Core.List.{List}
 use lib.Dec.{lit<}
 use lib.Pow.{shl_exact, pow_pos}
-use Rattle.std.specs.Prelude.{None, Some, Ok, Err}
+use Rattle.std.specs.Prelude.{None, Some}
 use Rattle.std.specs.Result.{is_ok}
 use Rattle.region.specs.Limits.{points_limit}
-use Rattle.region.specs.Answer.{Answer, answer_number, unless}
-use Rattle.region.proofs.AnswerLaws.{refusal_not_done}
+use Rattle.region.specs.Answer.{Answer, answer_number}
 use Rattle.pieces.specs.AsyncSpec.{Write, write}
 use Rattle.cuts.specs.Number.{choice_points}
 use Rattle.cuts.specs.Search.{none_bad, first_bad, finding_from}
 use Rattle.cuts.specs.Gate.{gate_numbers, gate_test}
 use Rattle.cuts.proofs.Search.{finding_at_start, finding_goes_on, finding_stops, finding_at_end}
 use Rattle.cuts.proofs.Gate.{last_trial_is_the_read_image}
-use Rattle.sheet.specs.Sheet.{obeys, allows, well_formed, sheet_number}
-use Rattle.sheet.proofs.Laws.{before_unseen, obeyed_is_formed}
+use Rattle.sheet.specs.Sheet.{obeys, allows, sheet_number}
+use Rattle.sheet.proofs.Laws.{before_unseen, told_ok}
 use Rattle.desk.specs.Desk.{Desk, chunk_size, view}
 use Rattle.engine.specs.Search.{Ready, Searches, trial_image, sheet_finding, sheet_image}
 use Rattle.engine.proofs.PointLaws.{points_with_a_write}
@@ -36,15 +35,7 @@ ready_points {d} {w = w} r = points_with_a_write d w r.good ∙ sym r.counted
 
 -- an answer that is no refusal is obedience: a sheet that is malformed nothing obeys
 pub judged_obeys : (sheet image : List ℕ) (r : Answer) {b : Bool} → answer_number r ≡ sheet_number sheet image → is_ok r ≡ b → allows sheet image ≡ b
-judged_obeys sheet image r told e = go r (well_formed sheet) (allows sheet image) (obeyed_is_formed sheet image image) told ∙ e
-  where
-    go : (r : Answer) (formed obeyed : Bool) → (obeyed ≡ true → formed ≡ true) → answer_number r ≡ unless formed 5 (unless obeyed 6 0) → obeyed ≡ is_ok r
-    go (Ok unit) true true f told = refl
-    go (Ok unit) true false f told = absurd (omega (arith, told))
-    go (Ok unit) false obeyed f told = absurd (omega (arith, told))
-    go (Err why) formed false f told = refl
-    go (Err why) true true f told = absurd (omega (arith, told, refusal_not_done why))
-    go (Err why) false true f told = absurd (false≢true (f refl))
+judged_obeys sheet image r told e = sym (told_ok sheet image r told image) ∙ e
 
 -- does the image of number m obey?
 abbrev good : Desk → (sheet : List ℕ) → Write → (m : ℕ) → Bool

@@ -10,7 +10,7 @@ ghost use Rattle.engine.specs.Trial.{replayed_by_choice};
 
 use desk::state::State;
 use pieces::Write;
-use pieces::lay::lay_chosen;
+use pieces::lay::{copy, lay_chosen};
 use pieces::points::touched;
 use records::Record;
 
@@ -51,7 +51,7 @@ pub fn trial(
     requires { Ready (desk image.now state.now log.now) (length work.old) (handed write) points }
     ensures { work.new ≡ trial_image (desk image.now state.now log.now) (handed write.entry) m }
 {
-    work.copy_from_slice(image);
+    copy(work, image);
     chosen_from(state.outstanding(), log, work, m);
     let older = points - touched(write.addr, write.bytes.len());
     lay_chosen(work, write, m >> older);

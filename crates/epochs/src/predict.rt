@@ -6,6 +6,7 @@ ghost use Rattle.epochs.specs.Predictable.{Predictable};
 
 use crate::epoch::Tape;
 use desk::state::State;
+use pieces::lay::copy;
 use pieces::rows::row_bytes;
 use region::chunks::size_to_chunks;
 use walks::selected::replay_selected;
@@ -15,7 +16,7 @@ pub fn predict(state: &State, image: &[u8], log: &[u8], tape: Tape, predicted: &
     requires { Predictable (desk image.now state.now log.now) tape.bytes.now tape.start (length predicted.old) }
     ensures { predicted.new ≡ predicted_now (desk image.now state.now log.now) tape.entry.bytes.now tape.entry.start }
 {
-    predicted.copy_from_slice(image);
+    copy(predicted, image);
     if tape.flush_foretold() {
         replay_whole(state, log, predicted);
     } else {

@@ -2,7 +2,7 @@
 -- (`update_is_lay`), a selective one those in selected chunks (by definition). A loop that has laid j bytes has `lay keep s addr (take j bytes)`,
 -- and one byte more is one store or none (`lay_kept`, `lay_lost`). Bytes that are copied in one go are laid too (`paste_is_update`). Assumes nothing.
 use Prim.Native.Nat.{ℕ, zero, suc, ◌+◌, ◌-◌, ◌≤◌, ◌<◌}
-use native.Mathlib.Nat.{le_refl, add-sub_cancel_left}
+use native.Mathlib.Nat.{le_refl, sub-zero, add-sub_cancel_left}
 use native.Mathlib.Numerals.{add-one}
 use native.Mathlib.Decide.{dec_lt, ℕ_discrete}
 use native.Mathlib.Omega.{arith}
@@ -27,6 +27,13 @@ update_is_lay s addr bytes =
 pub length_update : (s : List ℕ) (addr : ℕ) (bytes : List ℕ) → length (update_bytes s addr bytes) ≡ length s
 unfolding update_bytes
 length_update s addr bytes = length_tab _ (length s)
+
+-- what is kept matters at the image's own addresses only
+pub lay_agree : (f g : ℕ → Bool) (s : List ℕ) (addr : ℕ) (bytes : List ℕ) → ((i : ℕ) → i < length s → f i ≡ g i) → lay f s addr bytes ≡ lay g s addr bytes
+unfolding lay
+lay_agree f g s addr bytes e =
+    agree_tab _ _ (length s)
+    (λ i h. ap (λ (b : Bool). cond (inside addr (length bytes) i && b) (get_or bytes (i - addr) 0) (get_or s i 0)) (e i h))
 
 module _ (keep : ℕ → Bool) (s : List ℕ) (addr : ℕ) where
   pub length_lay : (bytes : List ℕ) → length (lay keep s addr bytes) ≡ length s
@@ -133,6 +140,15 @@ paste_is_update s addr bytes fits =
         ∙ sym (paste_more s addr bytes j 0 (omega arith) (omega arith))
         ∙ ap (λ (t : List ℕ). set t (addr + j) (get_or bytes j 0)) (first j (omega arith))
         ∙ sym (lay_kept (λ i. true) s addr bytes j (omega arith) (omega arith) refl)
+
+-- an image laid over another of its length takes its place
+pub update_whole : (s bytes : List ℕ) → length s ≡ length bytes → update_bytes s 0 bytes ≡ bytes
+update_whole s bytes e =
+    update_is_lay s 0 bytes
+    ∙ ext_get_or 0 (lay (λ i. true) s 0 bytes) bytes (length_lay (λ i. true) s 0 bytes ∙ e)
+    (λ i h.
+    let g : i < length s = subst (λ (n : ℕ). i < n) (length_lay (λ i. true) s 0 bytes) h in
+    lay_in (λ i. true) s 0 bytes i g (omega arith) (omega arith) ∙ ap (λ (k : ℕ). get_or bytes k 0) (sub-zero i))
 
 -- what was laid is read back
 pub update_reads_back : (s : List ℕ) (addr : ℕ) (bytes : List ℕ) → addr + length bytes ≤ length s → extract_bytes (update_bytes s addr bytes) addr (length bytes) ≡ bytes

@@ -12,16 +12,6 @@ use crate::Write;
 use crate::rows::row_bit;
 use region::CHUNK_SIZE;
 
-// The whole write: `apply_write`.
-pub fn lay(work: &mut [u8], write: Write)
-    requires { write.addr + length write.bytes.now ≤ length work.old }
-    ensures { work.new ≡ apply_write work.old (handed write.entry) }
-{
-    let Write { addr, bytes } = write;
-    let end = addr + bytes.len();
-    work[addr..end].copy_from_slice(bytes);
-}
-
 // Only the bytes at addresses that `keeps` answers for.
 fn lay_where<F: Fn(usize) -> bool>(work: &mut [u8], write: Write, keeps: F)
     requires lies { write.addr + length write.bytes.now ≤ length work.old }
@@ -35,6 +25,29 @@ fn lay_where<F: Fn(usize) -> bool>(work: &mut [u8], write: Write, keeps: F)
             work[i] = byte;
         }
     }
+}
+
+// The whole write: `apply_write`. A loop, and no `copy_from_slice`: that becomes a memmove, which the header doesn't
+// ask of the C library, where the loop becomes a memcpy.
+pub fn lay(work: &mut [u8], write: Write)
+    requires { write.addr + length write.bytes.now ≤ length work.old }
+    ensures { work.new ≡ apply_write work.old (handed write.entry) }
+{
+    lay_where(work, write, |_| true);
+}
+
+// Makes an image another one of its length.
+pub fn copy(work: &mut [u8], image: &[u8])
+    requires { length work.old ≡ length image.now }
+    ensures { work.new ≡ image.now }
+{
+    lay(
+        work,
+        Write {
+            addr: 0,
+            bytes: image,
+        },
+    );
 }
 
 // Only the bytes in chunks that the row at `at` keeps: `apply_write_selective`.

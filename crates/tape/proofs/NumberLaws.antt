@@ -13,9 +13,10 @@ use Rattle.region.specs.declared.Refusal.{Refusal}
 use Rattle.region.proofs.AnswerLaws.{passed, go_on, stop, both_none}
 use Rattle.region.proofs.Booleans.{cond_when, cond_unless, and_when, and_unless, both}
 use Rattle.pieces.specs.AsyncSpec.{Write, size_to_chunks}
-use Rattle.desk.specs.State.{sound_for, record_of}
+use Rattle.desk.specs.State.{sound_for, record_of, room_number}
 use Rattle.desk.specs.Desk.{chunk_size, chunks, sound, with_write}
 use Rattle.walks.specs.Kept.{KeptFrom}
+use Rattle.records.specs.declared.Record.{Record}
 use Rattle.desk.specs.declared.state.State.{State}
 use Rattle.desk.proofs.RoomLaws.{room_done}
 use Rattle.desk.proofs.Soundness.{SoundFor, Sound, sound_facts, facts_sound, Room}
@@ -52,6 +53,16 @@ module _ (L : ℕ) (st : State) (log_length predicted_length : ℕ) where
   tape_sound_facts e =
       let parts = both (sound_for L st log_length) (eqb predicted_length L) e in
       (sound_facts L st log_length parts.0, eqb-true predicted_length L parts.1)
+
+-- a write's room: 2, 3, 4, then 10 and 9 for the epoch with the new row
+module _ (C L : ℕ) (st : State) (tape : List ℕ) (start : ℕ) (r : Record) where
+  pub tape_room_goes_on : room_number L st r ≡ 0 → tape_room_number C L st tape start r ≡ epoch_number (size_to_chunks C L) (st.count + 1) tape start
+  unfolding tape_room_number
+  tape_room_goes_on e = go_on e
+
+  pub tape_room_stops : (why : Refusal) → room_number L st r ≡ refusal_number why → tape_room_number C L st tape start r ≡ refusal_number why
+  unfolding tape_room_number
+  tape_room_stops why e = stop why _ e
 
 -- what a done write tells
 pub record TapeWritten (t : TapeDesk) (tape : List ℕ) (w : Write) : Type 0 where

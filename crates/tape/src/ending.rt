@@ -11,6 +11,7 @@ ghost use Rattle.tape.specs.Ending.{tape_ending_number, Settles};
 use desk::state::State;
 use epochs::epoch::{End, Tape};
 use epochs::predict::predict;
+use pieces::lay::copy;
 use pieces::rows::row_bytes;
 use region::Refusal;
 use region::chunks::size_to_chunks;
@@ -58,7 +59,7 @@ pub(crate) fn settle(
     ensures same_tape { tape.new.bytes ≡ tape.old.bytes }
 {
     predict(state, image, log, *tape, predicted);
-    image.copy_from_slice(predicted);
+    copy(image, predicted);
     tape.start += 1 + state.count * row_bytes(size_to_chunks(image.len()));
     state.clear();
 }

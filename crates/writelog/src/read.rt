@@ -5,6 +5,7 @@ ghost use Rattle.desk.specs.Desk.{desk};
 ghost use Rattle.writelog.specs.Read.{asked_number, read_number, Fills, HandsBack};
 
 use desk::state::State;
+use pieces::lay::copy;
 use region::Refusal;
 use region::viewer::within;
 use walks::whole::replay_whole;
@@ -56,7 +57,7 @@ pub fn read_fill(
     ensures { Fills (desk image.now state.now log.now) work.old addr len result work.new }
 {
     asked(state, image.len(), log.len(), work.len(), addr, len)?;
-    work.copy_from_slice(image);
+    copy(work, image);
     replay_whole(state, log, work);
     Ok(())
 }

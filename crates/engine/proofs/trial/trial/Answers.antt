@@ -11,18 +11,18 @@ pub outstanding-requires : goal.outstanding-requires
 outstanding-requires c = (sound_facts _ _ _ c.requires.good).few
 
 pub chosen_from-requires-clause-remaining : goal.chosen_from-requires-clause-remaining
-chosen_from-requires-clause-remaining c = rw (c.copy_from_slice.ensures.after, c.outstanding.ensures.records) (all_remain (sound_facts _ c.args.state.now _ c.requires.good))
+chosen_from-requires-clause-remaining c = rw (c.copy.ensures, c.outstanding.ensures.records) (all_remain (sound_facts _ c.args.state.now _ c.requires.good))
 
 pub chosen_from-requires-clause-short : goal.chosen_from-requires-clause-short
-chosen_from-requires-clause-short c = rw c.copy_from_slice.ensures.after (sound_facts _ c.args.state.now _ c.requires.good).short
+chosen_from-requires-clause-short c = rw c.copy.ensures (sound_facts _ c.args.state.now _ c.requires.good).short
 
 pub returns : goal.returns
 returns c =
     let a = c.args in
     trial_leaves (desk a.image.now a.state.now a.log.now) (handed a.write) a.m c.requires
-    c.copy_from_slice.ensures.after
+    c.copy.ensures
     c.outstanding.ensures.records
     c.chosen_from.ensures
-    (c.chosen_from.auto.work ∙ ap length c.copy_from_slice.ensures.after)
+    (c.chosen_from.auto.work ∙ ap length c.copy.ensures)
     (ap (λ (k : ℕ). a.points - k) c.touched.ensures)
     c.lay_chosen.ensures

@@ -10,6 +10,6 @@ returns-else-flush_foretold c =
     let a = c.args in
     c.replay_selected.ensures
     ∙ selected_replay_is_predicted (desk a.image.now a.state.now a.log.now) a.tape.bytes.now a.tape.start
-    c.copy_from_slice.ensures.after
+    c.copy.ensures
     (omega (arith, (sound_facts _ a.state.now _ c.requires.good).few, c.requires.sized))
     (sym c.flush_foretold.ensures ∙ c.if-flush_foretold.false)

@@ -1,11 +1,10 @@
--- The bytes are pasted where the write lies. Assumes nothing.
-use Rattle.std.proofs.Common.{◌∙◌, length, arith}
-use Rattle.std.proofs.lemmas.Slice.{put_mid-paste}
-use Rattle.pieces.proofs.Laid.{paste_is_update}
+-- Every address is kept. Assumes nothing.
+use Rattle.std.proofs.Common.{◌≡◌, true, sym, ◌∙◌, rules}
+use Rattle.pieces.proofs.Laid.{update_is_lay}
 use Rattle.pieces.proofs.lay.lay.Goals as goal
 
 pub returns : goal.returns
 returns c =
-    let w = c.args.write in
-    put_mid-paste w.addr _ c.args.work.now _ w.bytes.now (length w.bytes.now) c.copy_from_slice.ensures.after (omega arith) (omega arith)
-    ∙ paste_is_update c.args.work.now w.addr w.bytes.now c.requires
+    let a = c.args in
+    let w = a.write in
+    c.lay_where.ensures (λ i. true) (λ i b low high told. search rules) ∙ sym (update_is_lay a.work.now w.addr w.bytes.now)

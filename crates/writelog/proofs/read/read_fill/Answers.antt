@@ -4,9 +4,9 @@ use Rattle.region.specs.Answer.{answer_number}
 use Rattle.writelog.proofs.ReadLaws.{asked_done}
 use Rattle.writelog.proofs.read.read_fill.Goals as goal
 
-pub copy_from_slice-requires : goal.copy_from_slice-requires
-copy_from_slice-requires c = (asked_done {L = length c.args.image.now} (sym c.asked.ensures ∙ ap answer_number c.in_ok-asked.was)).whole
+pub copy-requires : goal.copy-requires
+copy-requires c = (asked_done {L = length c.args.image.now} (sym c.asked.ensures ∙ ap answer_number c.in_ok-asked.was)).whole
 
 pub replay_whole-requires : goal.replay_whole-requires
 replay_whole-requires c =
-    rw c.copy_from_slice.ensures.after (asked_done {L = length c.args.image.now} (sym c.asked.ensures ∙ ap answer_number c.in_ok-asked.was)).good
+    rw c.copy.ensures (asked_done {L = length c.args.image.now} (sym c.asked.ensures ∙ ap answer_number c.in_ok-asked.was)).good
