@@ -7,7 +7,7 @@ use mathlib.Core.Bool.{Bool, true, false, ◌&&◌}
 use mathlib.Core.List.{List}
 use lib.Dec.{leb, eqb}
 use lib.ListN.{length, set}
-use borrow.Author.Tests.{le-leb, lt-leb, leb-true, eq-eqb, eqb-true}
+use borrow.Author.Tests.{le-leb, lt-leb, leb-true, eq-eqb, ne_eqb, eqb-true}
 use Rattle.std.specs.Prelude.{Err}
 use Rattle.region.specs.Limits.{image_limit, log_limit}
 use Rattle.region.specs.Answer.{unless, answer_number, refusal_number, Answer, done}
@@ -66,6 +66,27 @@ module _ (L log_length work_length addr rounds : ℕ) where
     pub lies : addr < L
     pub few : rounds ≤ rounds_limit
 
+  pub fits_long : image_limit < L → number ≡ 1
+  fits_long h = rw (lt-leb L image_limit h)
+
+  module _ (short : L ≤ image_limit) where
+    pub fits_other_log : (log_length ≡ log_limit → ⊥) → number ≡ 1
+    fits_other_log n = rw (le-leb L image_limit short, ne_eqb log_length log_limit n)
+
+    module _ (buffer : log_length ≡ log_limit) where
+      pub fits_other_work : (work_length ≡ L → ⊥) → number ≡ 1
+      fits_other_work n = rw (le-leb L image_limit short, eq-eqb log_length log_limit buffer, ne_eqb work_length L n)
+
+      module _ (same : work_length ≡ L) where
+        first_passed : number ≡ unless (leb (addr + 1) L) 2 (unless (leb rounds rounds_limit) 12 0)
+        first_passed = rw (le-leb L image_limit short, eq-eqb log_length log_limit buffer, eq-eqb work_length L same)
+
+        pub fits_outside : L ≤ addr → number ≡ 2
+        fits_outside h = first_passed ∙ rw (lt-leb (addr + 1) L (omega arith))
+
+        pub fits_many : addr < L → rounds_limit < rounds → number ≡ 12
+        fits_many h m = first_passed ∙ rw (le-leb (addr + 1) L (omega arith), lt-leb rounds rounds_limit m)
+
   pub number_0_fits : number ≡ 0 → Fit
   number_0_fits e =
       let f₁ = passed {good = leb L image_limit && eqb log_length log_limit && eqb work_length L} 0 e in
@@ -84,13 +105,7 @@ module _ (L log_length work_length addr rounds : ℕ) where
 
   pub fits_done : Fit → number ≡ 0
   fits_done f =
-      rw (
-        le-leb L image_limit f.short,
-        eq-eqb log_length log_limit f.buffer,
-        eq-eqb work_length L f.same,
-        le-leb (addr + 1) L (omega (arith, f.lies)),
-        le-leb rounds rounds_limit f.few,
-      )
+      first_passed f.short f.buffer f.same ∙ rw (le-leb (addr + 1) L (omega (arith, f.lies)), le-leb rounds rounds_limit f.few)
 
 module _ (image log work : List ℕ) (addr val0 val1 rounds : ℕ) where
   abbrev run_is : ℕ

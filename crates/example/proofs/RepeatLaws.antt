@@ -1,9 +1,9 @@
--- The rounds of a run, one after the other. Assumes nothing.
+-- The rounds of a run, one after the other, and the lengths that they keep. Assumes nothing.
 use Prim.Native.Nat.{ℕ, zero, suc, ◌+◌}
 use native.Mathlib.Numerals.{add-one}
-use mathlib.Core.Path.{◌≡◌, refl, ap, ◌∙◌}
+use mathlib.Core.Path.{◌≡◌, refl, sym, ap, ◌∙◌}
 use mathlib.Core.List.{List}
-use lib.ListN.{set}
+use lib.ListN.{length, set, length-set}
 use lib.Seq.{set-set}
 use Rattle.region.specs.Answer.{done}
 use Rattle.desk.specs.Desk.{Desk}
@@ -37,3 +37,19 @@ module _ {image log work : List ℕ} {addr val0 val1 : ℕ} where
       log_again : (k : ℕ) → log_after_round (if_any_round k (log_after_round log val0 val1) log) val0 val1 ≡ log_after_round log val0 val1
       log_again zero = refl
       log_again (suc k) = pair_over_pair log val1 val0 val1 val0
+
+  -- they keep the lengths
+  module _ {n : ℕ} {answer : RunAnswer} {image' log' work' : List ℕ} (r : Repeats image log work addr val0 val1 n answer image' log' work') where
+    kept_length : (k : ℕ) (after before : List ℕ) → length after ≡ length before → length (if_any_round k after before) ≡ length before
+    kept_length zero after before e = refl
+    kept_length (suc k) after before e = e
+
+    pub image_length : length image' ≡ length image
+    image_length = ap length r.image_after ∙ kept_length n (set image addr val0) image (length-set image addr val0)
+
+    pub log_length : length log' ≡ length log
+    log_length =
+        ap length r.log_after ∙ kept_length n (log_after_round log val0 val1) log (length-set (set log 0 val1) 1 val0 ∙ length-set log 0 val1)
+
+    pub work_length : length work ≡ length image → length work' ≡ length work
+    work_length same = ap length r.work_after ∙ kept_length n (set image addr val0) work (length-set image addr val0 ∙ sym same)

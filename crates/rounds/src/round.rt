@@ -1,5 +1,8 @@
 // Half a round of the example: a pair of writes through the gate, flushed. A round is val0, val1, and back.
+ghost use Rattle.std.specs.Prelude.{◌≡◌, Ok};
 ghost use Rattle.desk.specs.Desk.{desk};
+ghost use Rattle.gate.specs.Judgement.{verdict_report};
+ghost use Rattle.rounds.specs.Answer.{run_answer_number};
 ghost use Rattle.rounds.specs.Steps.{Under, Goes};
 
 use crate::RunError;
@@ -8,6 +11,16 @@ use gate::Verdict;
 use gate::gate::gate;
 use pieces::Write;
 use writelog::flush::flush;
+
+// The answer of a run that stops at this verdict: its number.
+fn stopped(verdict: Verdict) -> Result<(), RunError>
+    ensures { run_answer_number result ≡ (verdict_report (Ok verdict)).number }
+{
+    match verdict {
+        Verdict::Admitted(_) => Ok(()),
+        Verdict::Denied(_) => Err(RunError::Denied),
+    }
+}
 
 // Writes `first` and then `second` at `addr` through the gate, and flushes. Stops at the first
 // refusal; none comes. Each write takes its verdict apart by itself, as the example asks.
@@ -29,15 +42,17 @@ pub fn pair(
         addr,
         bytes: &[first],
     };
-    let Verdict::Admitted(_) = gate(state, image, log, sheet, work, once)? else {
-        return Err(RunError::Denied);
+    let verdict = gate(state, image, log, sheet, work, once)?;
+    let Verdict::Admitted(_) = verdict else {
+        return stopped(verdict);
     };
     let twice = Write {
         addr,
         bytes: &[second],
     };
-    let Verdict::Admitted(_) = gate(state, image, log, sheet, work, twice)? else {
-        return Err(RunError::Denied);
+    let verdict = gate(state, image, log, sheet, work, twice)?;
+    let Verdict::Admitted(_) = verdict else {
+        return stopped(verdict);
     };
     flush(state, image, log)?;
     Ok(())

@@ -1,6 +1,5 @@
 -- An opening, test by test. Assumes nothing.
-use Rattle.std.proofs.lemmas.Result.{err_from_is_err_and}
-use Rattle.gate.proofs.OpeningLaws.{opens_long, opens_other_log, opens_stopped, opens_good}
+use Rattle.gate.proofs.OpeningLaws.{opens_long, opens_other_log, opens_good}
 use Rattle.gate.proofs.open.open.Goals as goal
 use Rattle.gate.proofs.open.open.Goals.{
   then-image-gt-IMAGE_LIMIT-via-then-image-gt-IMAGE_LIMIT,
@@ -13,11 +12,6 @@ returns-then-image-gt-IMAGE_LIMIT c =
       | then-image-gt-IMAGE_LIMIT-via-then-image-gt-IMAGE_LIMIT w ↦ opens_long w.if-image-gt-IMAGE_LIMIT.true
       | then-image-gt-IMAGE_LIMIT-via-else-image-gt-IMAGE_LIMIT+then-log-ne-LOG_LIMIT w ↦ opens_other_log w.if-log-ne-LOG_LIMIT.true
     ]
-
-pub returns-in_err-judge : goal.returns-in_err-judge
-returns-in_err-judge c =
-    let passed = err_from_is_err_and c.from_residual.result c.from_residual.ensures.1 in
-    rw (passed.1, passed.2) (opens_stopped c.if-image-gt-IMAGE_LIMIT.false c.if-log-ne-LOG_LIMIT.false c.in_err-judge.field-0.0 c.in_err-judge.ensures)
 
 pub returns : goal.returns
 returns c = opens_good c.if-image-gt-IMAGE_LIMIT.false c.if-log-ne-LOG_LIMIT.false c.in_ok-judge.ensures c.fresh.ensures

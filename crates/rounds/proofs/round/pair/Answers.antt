@@ -2,18 +2,18 @@
 use Rattle.rounds.proofs.StepLaws.{once, twice, not_refused, not_denied, flush_not_refused, pair_goes}
 use Rattle.rounds.proofs.round.pair.Goals as goal
 
-pub returns-in_err-gate : goal.returns-in_err-gate
-returns-in_err-gate c = absurd (not_refused (once c.requires c.gate.ensures) c.in_err-gate.was)
+pub returns-in_err-verdict : goal.returns-in_err-verdict
+returns-in_err-verdict c = absurd (not_refused (once c.requires c.gate.ensures) c.in_err-verdict.was)
 
 pub returns-in_default : goal.returns-in_default
-returns-in_default c = absurd (c.in_default.not-Admitted _ (not_denied (once c.requires c.gate.ensures) c.in_ok-gate.was))
+returns-in_default c = absurd (c.in_default.not-Admitted _ (not_denied (once c.requires c.gate.ensures) c.in_ok-verdict.was))
 
-pub returns-in_err-gate-2 : goal.returns-in_err-gate-2
-returns-in_err-gate-2 c = absurd (not_refused (twice c.requires (once c.requires c.gate.ensures) c.gate-2.ensures) c.in_err-gate-2.was)
+pub returns-in_err-verdict-2 : goal.returns-in_err-verdict-2
+returns-in_err-verdict-2 c = absurd (not_refused (twice c.requires (once c.requires c.gate.ensures) c.gate-2.ensures) c.in_err-verdict-2.was)
 
-pub returns-in_default-2 : goal.returns-in_default-2
-returns-in_default-2 c =
-    absurd (c.in_default-2.not-Admitted _ (not_denied (twice c.requires (once c.requires c.gate.ensures) c.gate-2.ensures) c.in_ok-gate-2.was))
+pub returns-in_default-verdict : goal.returns-in_default-verdict
+returns-in_default-verdict c =
+    absurd (c.in_default-verdict.not-Admitted _ (not_denied (twice c.requires (once c.requires c.gate.ensures) c.gate-2.ensures) c.in_ok-verdict-2.was))
 
 pub returns-in_err-flush : goal.returns-in_err-flush
 returns-in_err-flush c =
