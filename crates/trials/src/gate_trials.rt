@@ -39,13 +39,15 @@ fn openings(rt: &impl Print, image: &[u8], sheets: &[&[u8]]) -> io::Result<()> {
 
 // Document 01's four sheets, each on an image that obeys it and on one that does not.
 fn sheets_trial(rt: &impl Print) -> io::Result<()> {
-    let mut image = [0; 16];
+    let zeros = [0; 16];
+    let mut other = [0; 16];
+    other[7] = 0xAA;
     print!(rt; "sheets")?;
-    openings(rt, &image, &[ALWAYS, NEVER, SEVEN_IS_EIGHT])?;
-    image[7] = 0xAA;
-    openings(rt, &image, &[SEVEN_IS_EIGHT, THREE_IS_11_OR_22])?;
-    image[3] = 0x22;
-    openings(rt, &image, &[THREE_IS_11_OR_22])?;
+    openings(rt, &zeros, &[ALWAYS, NEVER, SEVEN_IS_EIGHT])?;
+    openings(rt, &other, &[SEVEN_IS_EIGHT])?;
+    openings(rt, &zeros, &[THREE_IS_11_OR_22])?;
+    other[3] = 0x22;
+    openings(rt, &other, &[THREE_IS_11_OR_22])?;
     println!(rt)
 }
 
@@ -107,9 +109,9 @@ fn gate_trial(rt: &impl Print, sheet: &[u8], write: Write) -> io::Result<()> {
 // Each of two writes is good by itself; once one is recorded the other is not.
 fn spent_verdict_trial(rt: &impl Print) -> io::Result<()> {
     let mut desk = Desk::opened();
-    let mut work = [0; 16];
     print!(rt; "one of two")?;
     for addr in [0, 8] {
+        let mut work = [0; 16];
         show(
             rt,
             desk.gate(NOUGHT_OR_EIGHT_IS_0, &mut work, at(addr, &[1])),

@@ -49,8 +49,8 @@ impl<'a> Taped<'a> {
     }
 }
 
-// A and B by tape, then a flush, a cut and one write more, whatever the tape foretells. The last finds
-// no epoch more.
+// A and B by tape, then a flush, a cut and one write more over zeros, whatever the tape foretells. The
+// last finds no epoch more.
 fn epoch_trial(rt: &impl Print, tape: &[u8]) -> io::Result<()> {
     let mut taped = Taped::new(tape, 0);
     for write in [A, B] {
@@ -65,7 +65,10 @@ fn epoch_trial(rt: &impl Print, tape: &[u8]) -> io::Result<()> {
     show(rt, taped.cut())?;
     taped.left(rt)?;
     print!(rt; "tape write")?;
-    show(rt, taped.write(at(0, &[1])))?;
+    let mut last = Taped::new(tape, taped.tape.start);
+    last.desk.state = taped.desk.state;
+    last.predicted = [0; 16];
+    show(rt, last.write(at(0, &[1])))?;
     println!(rt)
 }
 
@@ -79,7 +82,9 @@ fn cut_under_flush_trial(rt: &impl Print) -> io::Result<()> {
 // A start at the tape's end, past it, and at the last number there is.
 fn start_trial(rt: &impl Print, start: usize) -> io::Result<()> {
     print!(rt; "start")?;
-    show(rt, Taped::new(&[0x80], start).flush())?;
+    let mut taped = Taped::new(&[0x80], start);
+    taped.predicted = [0; 16];
+    show(rt, taped.flush())?;
     println!(rt)
 }
 
