@@ -27,8 +27,8 @@ fn lay_where<F: Fn(usize) -> bool>(work: &mut [u8], write: Write, keeps: F)
     }
 }
 
-// The whole write: `apply_write`. A loop, and no `copy_from_slice`: that becomes a memmove, which the header doesn't
-// ask of the C library, where the loop becomes a memcpy.
+// The whole write: `apply_write`. A loop, and no `copy_from_slice`: that is built as a call of memmove, which the header
+// doesn't ask of the C library.
 pub fn lay(work: &mut [u8], write: Write)
     requires { write.addr + length write.bytes.now ≤ length work.old }
     ensures { work.new ≡ apply_write work.old (handed write.entry) }

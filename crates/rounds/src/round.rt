@@ -12,7 +12,8 @@ use gate::gate::gate;
 use pieces::Write;
 use writelog::flush::flush;
 
-// The answer of a run that stops at this verdict: its number.
+// The answer of a run that stops at this verdict: its number. A function with a clause, though no denial comes, so
+// that one taken for done is refused.
 fn stopped(verdict: Verdict) -> Result<(), RunError>
     ensures { run_answer_number result ≡ (verdict_report (Ok verdict)).number }
 {

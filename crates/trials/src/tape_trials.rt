@@ -3,7 +3,7 @@ use crate::print::{seen, show};
 use crate::small::{A, B, Desk, at};
 use epochs::epoch::Tape;
 use pieces::Write;
-use region::Refusal;
+use region::{LOG_LIMIT, Refusal};
 use std::io;
 use tape::tape_cut::tape_cut;
 use tape::tape_flush::tape_flush;
@@ -65,9 +65,15 @@ fn epoch_trial(rt: &impl Print, tape: &[u8]) -> io::Result<()> {
     show(rt, taped.cut())?;
     taped.left(rt)?;
     print!(rt; "tape write")?;
-    let mut last = Taped::new(tape, taped.tape.start);
-    last.desk.state = taped.desk.state;
-    last.predicted = [0; 16];
+    let mut last = Taped {
+        desk: Desk {
+            state: taped.desk.state,
+            image: [0; 16],
+            log: [0; LOG_LIMIT],
+        },
+        tape: taped.tape,
+        predicted: [0; 16],
+    };
     show(rt, last.write(at(0, &[1])))?;
     println!(rt)
 }
