@@ -37,7 +37,6 @@ pub fn lay(work: &mut [u8], write: Write)
 }
 
 // Makes an image another one of its length.
-#[tactic(auto, using(crate::proofs::Laid::update_whole))]
 pub fn copy(work: &mut [u8], image: &[u8])
     requires { length work.old ≡ length image.now }
     ensures { work.new ≡ image.now }
